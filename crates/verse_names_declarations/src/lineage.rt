@@ -259,6 +259,27 @@ fn make_all<'a>(
     Ok(made)
 }
 
+fn traced<'a>(
+    notes: Vec<Note<'a>>,
+    outline: Items<ClassInfo>,
+    nothing: Members<'a>,
+    made: Vec<Option<Descent<'a>>>,
+    order: Items<u32>,
+) -> Lineage<'a>
+    requires empty { members_view nothing ≡ no_members }
+    requires traced { AreTraced (map note_of notes.items) (classes_of outline) made.items }
+    ensures notes { result.notes ≡ notes.entry }
+    ensures outline { result.outline ≡ outline }
+{
+    Lineage {
+        notes,
+        outline,
+        nothing,
+        made,
+        order,
+    }
+}
+
 /// The members of the classes that have no circle above them.
 pub fn trace<'a>(
     alloc: Global,
@@ -272,13 +293,7 @@ pub fn trace<'a>(
     let nothing = Members::new(alloc, names)?;
     let mut order = Items::new(alloc);
     let made = make_all(alloc, &notes, outline.as_slice(), &nothing, &mut order)?;
-    Ok(Lineage {
-        notes,
-        outline,
-        nothing,
-        made,
-        order,
-    })
+    Ok(traced(notes, outline, nothing, made, order))
 }
 
 impl<'a> Lineage<'a> {
