@@ -203,11 +203,7 @@ fn place_at(places: &SharedList<Option<u32>>, at: usize) -> Option<u32>
     }
 }
 
-fn place_told(
-    known: &Rc<Calls<'_>>,
-    places: &SharedList<Option<u32>>,
-    name: &[u8],
-) -> Option<u32>
+fn place_told(known: &Rc<Calls<'_>>, places: &SharedList<Option<u32>>, name: &[u8]) -> Option<u32>
     ensures { result ≡ told_at (place name.now (roll_of known.now.value)) places.now }
 {
     match known.place(name) {
