@@ -155,15 +155,15 @@ module _ (p : Program) (f : Found) where
     reaches_value : {k q i : Sort} → IsKey k → Fits f.up i k → Reaches (s.map k q) (i ∷ []) q
     reaches_nothing : {is : List Sort} → Reaches s.never is s.never
 
-  -- what `set` writes to: a name or a member is of the sort of what it stands for, and an index of
-  -- that of what it leads to
+  -- what `set` writes to: a name or a member is of the sort of what it stands for, and an index,
+  -- whose failure is taken, of that of what it leads to
   abbrev mutual
     pub Settled : Allowed → Table → Tree → Type 0
     Settled a xs (tree n pl x) = SettledAt a xs n pl x
 
     pub SettledAt : Allowed → Table → ℕ → Place → Shape → Type 0
     SettledAt a xs n pl (t.Shape.index b ts) = Settled a xs b ×
-        Reaches (sort_at b) (sorts_at ts) (f.sort n)
+        Reaches (sort_at b) (sorts_at ts) (f.sort n) × (a.fails ≡ true)
     SettledAt a xs n pl x = Placed p f a xs (base_of p (tree n pl x)) (target_sorts_of x) (f.sort n)
 
   -- a value of the first sort is written where one of the second stands, and what that gives is of
