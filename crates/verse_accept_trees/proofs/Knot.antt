@@ -458,7 +458,7 @@ module _ (is : List ItemTree) (arrays events : ℕ → Bool) (quiet : Quiet is) 
     shape_fine a b c xs n p (t.Shape.chained op.And (tree m q s) (tree j r z)) g i v h k o l = (
       part_fine as_expression tt (around.freely a) b (freely c) refl serves_free xs n (tree m q s) g.0 h.0 k.0,
       part_fine as_expression tt (around.freely a) b (freely c) refl serves_free xs n (tree j r z) g.1 h.1 k.1,
-      (values_at c xs n p).both (arrays n) (tree m q s) (tree j r z) o,
+      (values_at c xs n p).both (tree m q s) (tree j r z) o,
     )
     shape_fine a b c xs n p (t.Shape.chained op.Add (tree m q s) (tree j r z)) g i v h k o l = (
       part_fine as_expression tt (around.freely a) b (freely c) refl serves_free xs n (tree m q s) g.0 h.0 k.0,

@@ -45,6 +45,7 @@ use Rattle.verse_sound_rules.specs.Fine.{target_sorts, target_sorts_of}
 use Rattle.verse_sound_rules.specs.Fine.{on_callee, on_member, on_statement, seen_behind, seen_after, stated_behind, Generates, Defines}
 use Rattle.verse_sound_rules.specs.Fine.{IsEnumValue, is_enum_value}
 use Rattle.verse_sound_rules.specs.Fine.{ArmFits, arm_fits, no_subject}
+use Rattle.verse_sound_rules.proofs.Both.{both_gives}
 use Rattle.verse_sound_trees.specs.Names.{Holds, holds_value, holds_cell, Sees}
 use Rattle.verse_sound_trees.specs.Outcomes.{any_names, gives, fails, returns, breaks}
 use Rattle.verse_sound_trees.specs.Going.{Level, bare, turns, Kept, LeftAt, Ready, Comes, Within}
@@ -351,7 +352,8 @@ module _ (p : Program) (f : Found) (top : Level) (fuel : ℕ) (known : Known p f
         (λ z kz. gives_value p f l e (v.array v.no_vals) kz (is_up f.up (is_list no_all) h.2))
     shape_well (t.Shape.chained op.Div b d) a xs n pl t e h see = absurd h
     shape_well (t.Shape.chained op.And b d) a xs n pl t e h see =
-        list_well xs t a e (form.computing op.And (p.is_array n) pl) (sort_at p f b ∷ sort_at p f d ∷ []) (f.sort n) (b ∷ d ∷ []) h.2 see
+        list_well xs t a e (form.computing op.And (p.is_array n) pl) (sort_at p f b ∷ sort_at p f d ∷ []) (f.sort n) (b ∷ d ∷ [])
+        (both_gives p f a xs (p.is_array n) pl (sort_at p f b) (sort_at p f d) (f.sort n) h.2) see
         (ev_well b a xs t e h.0 see, (ev_well d a xs t e h.1 see, tt))
     shape_well (t.Shape.chained op.Add b d) a xs n pl t e h see =
         list_well xs t a e (form.computing op.Add (p.is_array n) pl) (sort_at p f b ∷ sort_at p f d ∷ []) (f.sort n) (b ∷ d ∷ []) h.2 see
