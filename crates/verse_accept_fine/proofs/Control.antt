@@ -4,7 +4,7 @@ use Rattle.std.specs.Prelude.{Some, option_map}
 use Rattle.std.proofs.lemmas.Bool.{not-false}
 use Rattle.verse_base.specs.declared.places.Place.{Place}
 use Rattle.verse_base.proofs.Facts.{and_first, and_second, not_second, guarded}
-use Rattle.verse_tree.specs.Tree.{Written, Tree, Shape, Trees}
+use Rattle.verse_tree.specs.Tree.{Written, Tree, Shape, Trees, no_trees, more_trees}
 use Rattle.verse_tree.specs.Tree as t
 use Rattle.verse_tree.specs.ItemTree.{ItemTree}
 use Rattle.verse_tree.specs.declared.exprs.Operator.TheVariants as op
@@ -22,7 +22,7 @@ use Rattle.verse_check_typing.specs.Facts.{Facts, type_of}
 use Rattle.verse_check_typing.specs.Parts.{is_int, are_ints, sum_of, is_summed}
 use Rattle.verse_check_typing.specs.Parts as parts
 use Rattle.verse_check_typing.specs.Rows.{loop_type, spelled}
-use Rattle.verse_check_typing.specs.TypeRules.{fits_result}
+use Rattle.verse_check_typing.specs.TypeRules.{fits_result, alone, is_alone}
 use Rattle.verse_effects.specs.Forms.{is_async}
 use Rattle.verse_rules.specs.Sound.{completed}
 use Rattle.verse_meaning.specs.Residuals as form
@@ -37,12 +37,17 @@ use Rattle.verse_sorts_values.specs.Operands.{sorts, HasNever, never_here, never
 use Rattle.verse_sound_rules.specs.Found.{Allowed, tried, armed, deferred, looped}
 use Rattle.verse_sound_rules.specs.Forms.{Gives, Takes, IsOrder, order_below, order_at_most, order_above, order_at_least}
 use Rattle.verse_sound_rules.specs.Forms as takes
-use Rattle.verse_sound_rules.specs.Fine.{sorts_at}
+use Rattle.verse_sound_rules.specs.Fine.{Several, sorts_at}
 use Rattle.verse_accept_rows.specs.Found.{final}
 use Rattle.verse_accept_fine.specs.Sorted.{At, ty_at, all_classes, up, written_sort, sorted, program, Allows, is_array_type}
 use Rattle.verse_accept_fine.proofs.Rules.{or_left, or_right}
 use Rattle.verse_accept_fine.proofs.Base.{types, effects, its_row, of_row, is_row}
 use Rattle.verse_accept_fine.proofs.Operators.{int_fits, caught, tuple_sorts}
+
+are_several : (ts : Trees) → is_alone ts ≡ false → Several ts
+are_several no_trees h = absurd (cc)
+are_several (more_trees e no_trees) h = absurd (cc)
+are_several (more_trees e (more_trees f ts)) h = tt
 
 module _ (is : List ItemTree) (arrays events : ℕ → Bool) where
   abbrev F : Facts
@@ -345,6 +350,9 @@ module _ (is : List ItemTree) (arrays events : ℕ → Bool) where
 
     pub async_free : (x : Shape) → At is w a xs n p x → is_async (completed is) a x ≡ true → a.is_tried ≡ false
     async_free x h e = not_second (is_async (completed is) a x) a.is_tried (effects is w a xs n p x h).tried e
+
+    pub group_several : (x : Shape) (ts : Trees) → At is w a xs n p x → alone x ≡ is_alone ts → Several ts
+    group_several x ts h e = are_several ts (sym e ∙ (types is w a xs n p x h).several)
 
     pub sync_fits : (ts : Trees) → At is w a xs n p (t.Shape.sync ts) →
         Fits (up is) (s.tuple (sorts (sorts_at (program is arrays events) (sorted is) ts))) (sort_of (ty_at is n))

@@ -35,10 +35,10 @@ use Rattle.verse_sorts_values.specs.Operands.{Shown, shows_int, shows_char, show
 use Rattle.verse_sound_rules.specs.Found.{Allowed}
 use Rattle.verse_sound_rules.specs.Forms.{Gives}
 use Rattle.verse_sound_rules.specs.Forms as takes
-use Rattle.verse_sound_rules.specs.Fine.{sort_at, sorts_at, hole_sorts, pair_sorts, last_sort}
+use Rattle.verse_sound_rules.specs.Fine.{sort_at, sorts_at, hole_sorts, pair_sorts, last_sort, PairsFit, IsMap, is_map}
 use Rattle.verse_accept_rows.specs.Found.{final}
 use Rattle.verse_accept_fine.specs.Sorted.{At, ty_at, all_classes, up, sorted, program, Allows}
-use Rattle.verse_accept_fine.proofs.Base.{types, effects, its_row, is_row}
+use Rattle.verse_accept_fine.proofs.Base.{types, effects, its_row, its_sort, is_row}
 
 module _ (is : List ItemTree) (arrays events : ℕ → Bool) where
   abbrev F : Facts
@@ -111,6 +111,17 @@ module _ (is : List ItemTree) (arrays events : ℕ → Bool) where
       let v2 = join (all_classes is) v (type_of F (tree m q y)) in
       fit_so (fits_on (up is) (join_both (all_classes is) k (type_of F (tree n p x))).1 (keys_grow k2 ps))
       (fit_so (fits_on (up is) (join_both (all_classes is) v (type_of F (tree m q y))).1 (values_grow v2 ps)) (pairs_fit k2 v2 ps))
+
+  each_pair : (k v : Ty) (ps : Pairs) →
+      PairsFit (program is arrays events) (sorted is) (sort_of (keys_from F k ps)) (sort_of (values_from F v ps)) ps
+  each_pair k v no_pairs = tt
+  each_pair k v (more_pairs (tree n p x) (tree m q y) ps) =
+      let k2 = join (all_classes is) k (type_of F (tree n p x)) in
+      let v2 = join (all_classes is) v (type_of F (tree m q y)) in (
+        fits_on (up is) (join_both (all_classes is) k (type_of F (tree n p x))).1 (keys_grow k2 ps),
+        fits_on (up is) (join_both (all_classes is) v (type_of F (tree m q y))).1 (values_grow v2 ps),
+        each_pair k2 v2 ps,
+      )
 
   pub key_sort : (u : Ty) → is_key u ≡ true → IsKey (sort_of u)
   key_sort ty.never h = s.key_never
@@ -245,6 +256,15 @@ module _ (is : List ItemTree) (arrays events : ℕ → Bool) where
           takes = takes.takes_map (key_sort k (and_first (is_key k) (has_keys v) keys)) (all_entries (sort_of k) (sort_of v) ps);
           value = is_row is n _ (its_row is w a xs n p (t.Shape.mapping ps) h);
         }
+
+    pub mapping_is : (ps : Pairs) → At is w a xs n p (t.Shape.mapping ps) →
+        IsMap (program is arrays events) (sorted is) (sort_of (ty_at is n)) ps
+    mapping_is ps h =
+        let k = keys_from F ty.never ps in
+        let v = values_from F ty.never ps in
+        let keys = not-false (has_keys (ty.mapping k v)) (types is w a xs n p (t.Shape.mapping ps) h).keyed in
+        subst (λ q. IsMap (program is arrays events) (sorted is) q ps) (sym (its_sort is w a xs n p (t.Shape.mapping ps) h))
+        (is_map (key_sort k (and_first (is_key k) (has_keys v) keys)) (each_pair ty.never ty.never ps))
 
     pub holes_gives : (x : Bytes) (hs : Holes) → At is w a xs n p (t.Shape.holes x hs) →
         Give (form.joining (x ∷ pieces hs) p) (hole_sorts (program is arrays events) (sorted is) hs)

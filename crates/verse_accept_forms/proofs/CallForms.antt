@@ -1,5 +1,5 @@
 -- Calls and indices: what their forms need.
-use Rattle.std.proofs.Common.{◌≡◌, ℕ, zero, suc, ℤ, Bool, true, false, not, cond, ◌&&◌, nat_eq, List, [], ◌∷◌, Option, length}
+use Rattle.std.proofs.Common.{◌≡◌, ℕ, zero, suc, Bool, true, false, not, cond, ◌&&◌, List, [], ◌∷◌, Option}
 use Rattle.std.proofs.Common.{refl, sym, subst, ap, ◌∙◌}
 use Rattle.std.specs.Prelude.{Some, None, pos, negsuc}
 use Rattle.std.proofs.lemmas.Bool.{not-false}
@@ -8,7 +8,6 @@ use Rattle.verse_base.proofs.Facts.{and_first, and_second}
 use Rattle.verse_tree.specs.Tree.{Tree, tree, Shape, Trees, no_trees, more_trees}
 use Rattle.verse_tree.specs.Tree as t
 use Rattle.verse_tree.specs.ItemTree.{ItemTree}
-use Rattle.verse_tree.specs.declared.exprs.Operator.{Operator}
 use Rattle.verse_tree.specs.declared.exprs.Operator.TheVariants as op
 use Rattle.verse_rules_types.specs.Types.{Ty, Tys}
 use Rattle.verse_rules_types.specs.Types as ty
@@ -20,26 +19,22 @@ use Rattle.verse_names_scopes.specs.Visible.{World}
 use Rattle.verse_check_typing.specs.Facts.{Facts, type_of, or_never}
 use Rattle.verse_check_typing.specs.Keys.{has_keys}
 use Rattle.verse_check_typing.specs.Parts.{count, first_from, is_int, is_void, are_ints}
-use Rattle.verse_check_typing.specs.Parts as parts
 use Rattle.verse_check_typing.specs.Callees as types
 use Rattle.verse_check_typing.specs.Calls.{are_wanted, call_wanted, call_type, index_wanted, index_type, arguments_fit, indices_fit}
 use Rattle.verse_check_typing.specs.Calls.{can_call}
 use Rattle.verse_check_typing.specs.Calls.{can_stand_indexed, can_index, would_fit, would_be_quotient, element_of, has_item, item_of}
 use Rattle.verse_check_typing.specs.Calls.{has_called_item, takes_one_item, takes_one_index, is_there, ty_by, tree_place, ty_at as type_in}
-use Rattle.verse_check_typing.specs.Steps.{params_at}
 use Rattle.verse_effects.specs.Callees.{call_fails, call_lasts, call_suspends, call_touches}
-use Rattle.verse_effects.specs.Callees as effects
 use Rattle.verse_effects.specs.Forms.{is_spawned, is_on_path, index_fails, is_plain_function}
 use Rattle.verse_effects.specs.declared.callees.Callee.{Callee as Does}
 use Rattle.verse_effects.specs.declared.callees.Callee.TheVariants as c
-use Rattle.verse_rules.specs.Sound.{completed}
 use Rattle.verse_meaning.specs.Programs.{Program, method_in}
 use Rattle.verse_meaning.specs.Residuals as form
 use Rattle.verse_meaning.specs.Residuals.{Form}
 use Rattle.verse_meaning.specs.Evaluating.{Callee, picked, literal_of}
 use Rattle.verse_sorts.specs.Sorts as s
 use Rattle.verse_sorts.specs.Sorts.{Sort, Sorts, Fits}
-use Rattle.verse_sorts.specs.Typing.{AllFit, fit_no, fit_so}
+use Rattle.verse_sorts.specs.Typing.{fit_no, fit_so}
 use Rattle.verse_sorts.proofs.Fitting.{fits_itself, all_itself}
 use Rattle.verse_sorts_types.specs.SortOf.{sort_of}
 use Rattle.verse_sorts_types.specs.SortOf as sort
@@ -49,7 +44,7 @@ use Rattle.verse_sound_rules.specs.Found.{Allowed}
 use Rattle.verse_sound_rules.specs.Found as rules
 use Rattle.verse_sound_rules.specs.Forms.{Gives, NoCase}
 use Rattle.verse_sound_rules.specs.Forms as takes
-use Rattle.verse_sound_rules.specs.Fine.{on_callee}
+use Rattle.verse_sound_rules.specs.Fine.{on_callee, Reaches}
 use Rattle.verse_accept_scopes.specs.Holding.{OnArguments}
 use Rattle.verse_accept_rows.specs.Found.{final, Found}
 use Rattle.verse_accept_classes.specs.Owners.{Owned}
@@ -63,6 +58,7 @@ use Rattle.verse_accept_fine.proofs.Control.{async_waits}
 use Rattle.verse_accept_fine.proofs.Calls as calls
 use Rattle.verse_accept_fine.proofs.Calls.{and_true, served, class_entry}
 use Rattle.verse_accept_forms.specs.Callees.{HasValue, HasObject, Rounds}
+use Rattle.verse_accept_forms.proofs.Indices.{reaches}
 use Rattle.verse_accept_forms.proofs.Operands.{sorts_of, no_operands, one_operand, two_ints, not_one, used_allows}
 use Rattle.verse_accept_forms.proofs.CalleeKinds.{Kind, IsWait, IsValue, IsFixed, fixed_int, fixed_enum, is_function, is_own, is_method}
 use Rattle.verse_accept_forms.proofs.CalleeKinds.{is_print}
@@ -461,10 +457,18 @@ module _ (is : List ItemTree) (arrays events : ℕ → Bool) where
           element_by (type_of F e) ts (fit_index (types.value (type_of F e)) g) (counted_index (types.value (type_of F e)) g) keys
           (fails_as c.Other v.effects (ap not path)) (row_index (types.value (type_of F e)) g)
 
+      index_reaches : IsValue is arrays events e → has_keys (type_of F e) ≡ true →
+          Reaches whole found (sort_of (type_of F e)) (sorts ts) own
+      index_reaches v keys =
+          let g = v.callee in
+          reaches is arrays events (type_of F e) ts (ty_at is n) (fit_index (types.value (type_of F e)) g)
+          (counted_index (types.value (type_of F e)) g) keys (row_index (types.value (type_of F e)) g)
+
       pub index_by : FunctionsStand is → is_spawned a.used ≡ false → is_on_path a.used ≡ false → has_keys (type_of F e) ≡ true →
           Arguments e ts → {k : Callee} → Kinds e form.indexing k →
           on_callee k (λ x. Give x (sorts ts)) (λ x. HasObject is e × Give x (object e ∷ sorts ts))
-          (λ x. HasValue is arrays events w a xs b n p e × Give x (sort_of (type_of F e) ∷ sorts ts)) (λ x. ⊥)
+          (λ x. HasValue is arrays events w a xs b n p e × Reaches whole found (sort_of (type_of F e)) (sorts ts) own ×
+          Give x (sort_of (type_of F e) ∷ sorts ts)) (λ x. ⊥)
       index_by stand used path keys args (is_function g f k) = function_gives g f ts (can_index_of stand used args g _ k)
       index_by stand used path keys args (is_own d i f o this k) = own_gives d i f ts this (can_index_of stand used args f.number o k)
       index_by stand used path keys args (is_method d i f o has same k) =
@@ -477,7 +481,7 @@ module _ (is : List ItemTree) (arrays events : ℕ → Bool) where
       index_by stand used path keys args (is_event u has same g f) = absurd (plain c.Await f refl)
       index_by stand used path keys args (is_signal u has same g f) = absurd (plain c.Signal f refl)
       index_by stand used path keys args (is_nowhere x k has same g) = (has, nowhere_gives x (object e) ts k same)
-      index_by stand used path keys args (as_value v has) = (has, index_gives v keys path)
+      index_by stand used path keys args (as_value v has) = (has, index_reaches v keys, index_gives v keys path)
       index_by stand used path keys args (is_item g) =
           let no : can_stand_indexed types.item ≡ true =
           ap can_stand_indexed (sym g) ∙ not-false _ (base.types is w a xs n p (t.Shape.index e ts) h).callable in absurd (cc)

@@ -1,5 +1,5 @@
 -- Each tree of a program that breaks no rule is fine: by recursion on it, with a law for each form.
-use Rattle.std.proofs.Common.{◌≡◌, ℕ, ◌+◌, Bool, true, false, not, ◌&&◌, List, [], ◌∷◌, Option, refl, sym, ap, ◌∙◌, subst}
+use Rattle.std.proofs.Common.{◌≡◌, ℕ, ◌+◌, Bool, true, false, List, [], ◌∷◌, Option, refl, sym, ap, ◌∙◌, subst}
 use Rattle.std.specs.Prelude.{Some, None, slice_get}
 use Rattle.std.proofs.lemmas.Bool.{not-false}
 use Rattle.verse_base.specs.declared.places.Place.{Place}
@@ -9,7 +9,7 @@ use Rattle.verse_tree.specs.Tree.{no_givens, more_givens}
 use Rattle.verse_tree.specs.Tree as t
 use Rattle.verse_tree.specs.ItemTree.{ItemTree}
 use Rattle.verse_tree.specs.PostOrder.{expression}
-use Rattle.verse_tree.specs.Shapes.{Stand, as_block, as_part, as_statement, as_body, as_expression, as_clause, as_arm}
+use Rattle.verse_tree.specs.Shapes.{Stand, as_block, as_statement, as_body, as_expression, as_clause, as_arm}
 use Rattle.verse_tree.specs.Shapes.{Shaped, PartsShaped, AllShaped, SomeShaped, AllHoles, PairsShaped, GivensShaped}
 use Rattle.verse_tree.specs.declared.exprs.Operator.TheVariants as op
 use Rattle.verse_tree.specs.declared.tables.Ref.{Ref}
@@ -35,7 +35,7 @@ use Rattle.verse_sorts.specs.Sorts.{Sort}
 use Rattle.verse_sorts_types.specs.SortOf.{sort_of}
 use Rattle.verse_sound_rules.specs.Found.{Allowed}
 use Rattle.verse_sound_rules.specs.Found as allowed
-use Rattle.verse_sound_rules.specs.Fine.{seen_behind, on_callee, on_member, sort_at, sorts_at, object_sort, ArmFits, IsEnumValue}
+use Rattle.verse_sound_rules.specs.Fine.{on_callee, on_member, sort_at, sorts_at, object_sort, Reaches, ArmFits, IsEnumValue}
 use Rattle.verse_sound_rules.specs.Fine.{is_enum_value, Fine, FineShape, FineAll, FineClauses, FineObject, FineObjectOf, FineTrees}
 use Rattle.verse_sound_rules.specs.Fine.{FineHoles, FinePairs}
 use Rattle.verse_sound_rules.specs.Fine.{FineGivens, FineEach, FineArms, FineMoreArms, FineArm, FineQuotient, FineTarget, FineSpawned}
@@ -340,15 +340,17 @@ module _ (is : List ItemTree) (arrays events : ℕ → Bool) (quiet : Quiet is) 
         on_callee f (λ x. GiveAt a b xs n p x operands)
         (λ x. HasObject is (tree m q s) × GiveAt a b xs n p x with_object)
         (λ x. HasValue is arrays events w a xs b n p (tree m q s) ×
+        Reaches whole found (needs.part is arrays events (tree m q s)) operands (needs.own is arrays events w a xs b n p) ×
         GiveAt a b xs n p x (needs.part is arrays events (tree m q s) ∷ operands)) (λ x. ⊥) →
         on_callee f (λ x. FineTrees whole found b xs ts × GiveAt a b xs n p x operands)
         (λ x. FineObject whole found b xs (tree m q s) × FineTrees whole found b xs ts × GiveAt a b xs n p x with_object)
-        (λ x. Fine whole found b xs (tree m q s) × FineTrees whole found b xs ts × GiveAt a b xs n p x (sort_at whole found (tree m q s) ∷
-        operands))
+        (λ x. (Fine whole found b xs (tree m q s) ×
+        Reaches whole found (sort_at whole found (tree m q s)) operands (needs.own is arrays events w a xs b n p)) ×
+        FineTrees whole found b xs ts × GiveAt a b xs n p x (sort_at whole found (tree m q s) ∷ operands))
         (λ x. FineQuotient whole found b xs n x ts)
     index_made (alone f) args whose val r = (args tt, r)
     index_made (of_object f) args whose val r = (whose r.0, args tt, r.1)
-    index_made (of_value f) args whose val r = (val f refl r.0, args tt, r.1)
+    index_made (of_value f) args whose val r = ((val f refl r.0, r.1), args tt, r.2)
     index_made (of_quotient f) args whose val r = absurd r
     index_made no_callee args whose val r = r
 
@@ -387,8 +389,12 @@ module _ (is : List ItemTree) (arrays events : ℕ → Bool) (quiet : Quiet is) 
       (plain_at c xs n p).variable x u (tree m q s) o h.1.2.serves,
     )
     shape_fine a b c xs n p (t.Shape.assignment m e (tree j q s)) g i v h k o l = (
-      target_fine (used_as target a) b (used c target) xs n e g.0 ((targets_at c xs n p).settable m e (tree j q s) o)
-          ((targets_at c xs n p).object m e (tree j q s) o h.0) h.0 k.0,
+      (
+        target_fine (used_as target a) b (used c target) xs n e g.0 ((targets_at c xs n p).settable m e (tree j q s) o)
+            ((targets_at c xs n p).object m e (tree j q s) o h.0) h.0 k.0,
+        (targets_at c xs n p).settled m e (tree j q s) o h.0,
+        (targets_at c xs n p).stored m e (tree j q s) o h.0,
+      ),
       part_fine as_expression tt (around.freely a) b (freely c) refl serves_free xs n (tree j q s) g.1 h.1 k.1,
       (targets_at c xs n p).assignment m e (tree j q s) o h.0,
     )
@@ -521,7 +527,8 @@ module _ (is : List ItemTree) (arrays events : ℕ → Bool) (quiet : Quiet is) 
     )
     shape_fine a b c xs n p (t.Shape.array ts) g i v h k o l =
         (trees_fine as_expression tt (around.freely a) b (freely c) refl xs n ts g h k, (values_at c xs n p).array ts o)
-    shape_fine a b c xs n p (t.Shape.mapping ps) g i v h k o l = (pairs_fine a b c xs n ps g h k, (values_at c xs n p).mapping ps o)
+    shape_fine a b c xs n p (t.Shape.mapping ps) g i v h k o l =
+        let f = values_at c xs n p in ((pairs_fine a b c xs n ps g h k, f.is_map ps o), f.mapping ps o)
     shape_fine a b c xs n p (t.Shape.instance x gs) g i v h k o l =
         let f = (naming_at c xs n p).instance x gs o in (f.0, f.1, givens_fine a b c xs n gs g h k, f.2)
     shape_fine a b c xs n p (t.Shape.event u) g i v h k o l = (plain_at c xs n p).event u o
@@ -553,20 +560,20 @@ module _ (is : List ItemTree) (arrays events : ℕ → Bool) (quiet : Quiet is) 
         )
     shape_fine a b c xs n p (t.Shape.sync ts) g i v h k o l =
         let f = control_at c xs n p in (
-          f.waits (t.Shape.sync ts) o refl,
+          (f.waits (t.Shape.sync ts) o refl, f.several (t.Shape.sync ts) ts o refl),
           trees_fine as_statement tt (around.armed a) (allowed.armed b) (armed c (f.untried (t.Shape.sync ts) o refl)) refl xs n ts g h k,
           f.sync ts o,
         )
     shape_fine a b c xs n p (t.Shape.race ts) g i v h k o l =
         let f = control_at c xs n p in (
-          f.waits (t.Shape.race ts) o refl,
+          (f.waits (t.Shape.race ts) o refl, f.several (t.Shape.race ts) ts o refl),
           each_fine (around.armed a) (allowed.armed b) (armed c (f.untried (t.Shape.race ts) o refl)) refl xs n ts g
               (needs.own is arrays events w a
               xs b n p) (f.race ts o) h k,
         )
     shape_fine a b c xs n p (t.Shape.rush ts) g i v h k o l =
         let f = control_at c xs n p in (
-          f.waits (t.Shape.rush ts) o refl,
+          (f.waits (t.Shape.rush ts) o refl, f.several (t.Shape.rush ts) ts o refl),
           each_fine (around.armed a) (allowed.armed b) (armed c (f.untried (t.Shape.rush ts) o refl)) refl xs n ts g
               (needs.own is arrays events w a
               xs b n p) (f.rush ts o) h k,

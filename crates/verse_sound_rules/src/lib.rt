@@ -2,5 +2,5 @@
 //! rests on. Read `specs/Found`, `specs/Forms` (the forms with operands), `specs/Fine` (one case
 //! for each shape of a tree), `specs/Programs`.
 //!
-//! The public lemmas, which crates above cite, are those of `proofs/Tables`.
+//! The public lemmas, which crates above cite, are those of `proofs/Tables` and `proofs/Stored`.
 #![tactic(auto)]

@@ -28,6 +28,13 @@ pub small_fine : FineProgram small
 small_fine = record {
   found = found;
   fine = record {
+    known = record {
+      sort = λ n. tt;
+      key = λ n. tt;
+      slots = λ c i q h. no_some h;
+      params = λ g i q h. no_some h;
+      result = λ g. tt;
+    };
     functions = λ g fn h. no_some h;
     defaults = λ b q h. no_default h;
     slots = λ c d i q h g. no_some g;

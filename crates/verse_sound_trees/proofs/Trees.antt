@@ -303,10 +303,10 @@ module _ (p : Program) (f : Found) (top : Level) (fuel : ℕ) (known : Known p f
     shape_well (t.Shape.assignment m b d) a xs n pl t e h see =
         well_is p f top fuel t a (f.sort n) (λ g w. list_args p (deeper p g) e (form.storing (base_of p b) (mode_of m) pl) []
         (target_list b ++ d ∷ []) a.waits w) _
-        (λ g w. targets_are p (deeper p g) b (form.storing (base_of p b) (mode_of m) pl) (d ∷ []) a.waits e w (is_target a xs b h.0))
+        (λ g w. targets_are p (deeper p g) b (form.storing (base_of p b) (mode_of m) pl) (d ∷ []) a.waits e w (is_target a xs b h.0.0))
         (list_well xs t a e (form.storing (base_of p b) (mode_of m) pl) (target_sorts p f b ++ sort_at p f d ∷ []) (f.sort n)
         (target_list b ++ d ∷ []) h.2 see
-        (all_join t a e (target_list b) (target_sorts p f b) (d ∷ []) (sort_at p f d ∷ []) (target_well b a xs t e h.0 see)
+        (all_join t a e (target_list b) (target_sorts p f b) (d ∷ []) (sort_at p f d ∷ []) (target_well b a xs t e h.0.0 see)
         (ev_well d a xs t e h.1 see, tt)))
     shape_well (t.Shape.returned b) a xs n pl t e h see =
         list_well xs t a e form.returning (sort_at p f b ∷ []) (f.sort n) (b ∷ []) h.1 see (ev_well b a xs t e h.0 see, tt)
@@ -400,7 +400,7 @@ module _ (p : Program) (f : Found) (top : Level) (fuel : ℕ) (known : Known p f
         (λ g w. λ j. valued (ev p (deeper p g) b a.waits e w) (λ z. form.args e x [] z (trees_list ts)) (λ y z. all_are p
         (deeper p g) ts x (y ∷ []) a.waits e z j))
         (list_well xs t a e x (sort_at p f b ∷ sorts_at p f ts) (f.sort n) (b ∷ trees_list ts) i.2 see
-        (ev_well b a xs t e i.0 see, trees_well ts a xs t e i.1 see)))
+        (ev_well b a xs t e i.0.0 see, trees_well ts a xs t e i.1 see)))
         (λ x i. quotient_well ts a xs t e n x i see) h
     shape_well (t.Shape.integer z) a xs n pl t e h see = const_well t a (f.sort n) e (v.int z) (λ u. is_up f.up is_int h)
     shape_well (t.Shape.character c) a xs n pl t e h see = const_well t a (f.sort n) e (v.char c) (λ u. is_up f.up is_char h)
@@ -425,7 +425,7 @@ module _ (p : Program) (f : Found) (top : Level) (fuel : ℕ) (known : Known p f
     shape_well (t.Shape.mapping ps) a xs n pl t e h see =
         well_is p f top fuel t a (f.sort n) (λ g w. list_args p (deeper p g) e (form.making_map pl) [] (pairs_list ps) a.waits w) _
         (λ g w. paired_are p (deeper p g) ps (form.making_map pl) [] a.waits e w)
-        (list_well xs t a e (form.making_map pl) (pair_sorts p f ps) (f.sort n) (pairs_list ps) h.1 see (pairs_well ps a xs t e h.0 see))
+        (list_well xs t a e (form.making_map pl) (pair_sorts p f ps) (f.sort n) (pairs_list ps) h.1 see (pairs_well ps a xs t e h.0.0 see))
     shape_well (t.Shape.instance x gs) a xs n pl t e h see = λ l g sp rd u w gr k.
         known_there p f top fuel known a l g sp rd xs w (class_ref p (ref_at p n)) h.0 _ h.1
         (well_is p f top fuel t a (f.sort n) (λ g w. list_args p (deeper p g) e (form.instancing h.0 (given_names gs) pl) []
@@ -455,14 +455,14 @@ module _ (p : Program) (f : Found) (top : Level) (fuel : ℕ) (known : Known p f
     shape_well (t.Shape.branch b) a xs n pl t e h see =
         branch_well p f known.cancel top fuel a h.0 t (sort_at p f b) (f.sort n) e (λ g w. ev p (deeper p g) b true e w) h.2 (ev_well b
         (armed a) xs t e h.1 see)
-    shape_well (t.Shape.sync ts) a xs n pl t e h see = group_well p f known.cancel top fuel a h.0 t sync pl e (f.sort n) ts
-        (sorts_at p f ts) h.2 (armed_well ts a h.0 xs t e h.1 see)
+    shape_well (t.Shape.sync ts) a xs n pl t e h see = group_well p f known.cancel top fuel a h.0.0 t sync pl e (f.sort n) ts
+        (sorts_at p f ts) h.2 (armed_well ts a h.0.0 xs t e h.1 see)
     shape_well (t.Shape.race ts) a xs n pl t e h see =
-        group_well p f known.cancel top fuel a h.0 t race pl e (f.sort n) ts (sorts_at p f ts) (each_fits (armed a) xs
-        (f.sort n) ts h.1) (each_well ts a h.0 xs (f.sort n) t e h.1 see)
+        group_well p f known.cancel top fuel a h.0.0 t race pl e (f.sort n) ts (sorts_at p f ts) (each_fits (armed a) xs
+        (f.sort n) ts h.1) (each_well ts a h.0.0 xs (f.sort n) t e h.1 see)
     shape_well (t.Shape.rush ts) a xs n pl t e h see =
-        group_well p f known.cancel top fuel a h.0 t rush pl e (f.sort n) ts (sorts_at p f ts) (each_fits (armed a) xs
-        (f.sort n) ts h.1) (each_well ts a h.0 xs (f.sort n) t e h.1 see)
+        group_well p f known.cancel top fuel a h.0.0 t rush pl e (f.sort n) ts (sorts_at p f ts) (each_fits (armed a) xs
+        (f.sort n) ts h.1) (each_well ts a h.0.0 xs (f.sort n) t e h.1 see)
     shape_well (t.Shape.spawn b) a xs n pl t e h see = spawned_well b a xs n t e h see
     shape_well (t.Shape.sleep d) a xs n pl t e h see = sleeps_well t a (f.sort n) e (λ w. after d w.state) h.0
         (λ u w. is_up f.up is_unit h.1)
