@@ -36,20 +36,19 @@ use Rattle.lower_pass_stretches.proofs.Names.{Sees}
 use Rattle.lower_pass_stretches.proofs.Begins.{Begins, starts}
 use Rattle.lower_pass_stretches.proofs.Going.{Way, If, itself, Going, Steady, then_goes, outside}
 use Rattle.lower_pass_stretches.proofs.Single.{OneItem, just_goes, IsValue, Lands, lands_goes}
-use Rattle.lower_pass_stretches.proofs.Combined.{Led, if_map, either_goes, either_led, opens_try}
-use Rattle.lower_pass_stretches.proofs.Inside.{Inside, Blocks, Since, Returning, Breaking, blocks_below, blocks_moved, keeps_moved, steady_of}
-use Rattle.lower_pass_contexts.proofs.Contexts.{inside_try}
+use Rattle.lower_pass_stretches.proofs.Combined.{Led, either_goes, either_led, opens_try}
+use Rattle.lower_pass_stretches.proofs.Inside.{Inside, Blocks, Since, blocks_below, blocks_moved, keeps_moved, steady_of}
 use Rattle.lower_pass_contexts.proofs.Trys.{try_asked, commit_asked}
 use Rattle.lower_pass_contexts.proofs.After.{After}
-use Rattle.lower_pass_forms.proofs.Finishing.{IsOver, steady_over, over_itself, last_goes}
+use Rattle.lower_pass_forms.proofs.Finishing.{steady_over, over_itself, last_goes}
 use Rattle.lower_pass_blocks.proofs.Attempted.{Tried, in_try}
 use Rattle.lower_pass_blocks.proofs.Stated.{Next, weaker}
-use Rattle.lower_pass_statements.proofs.Turns.{Reached, drop_next, since_on}
+use Rattle.lower_pass_statements.proofs.Turns.{Reached, drop_next}
 use Rattle.lower_pass_statements.proofs.Settled.{Settles, settled_lands, value_settles}
 
 -- ---- what is known of a state behind another, with no block more
 
-module _ (code : Code) (notes : Notes) {found : rules.Found} {w : Way} {ts : List ℕ} {al : Allowed} {xs ys : Table} {sc sc2 : Scope}
+module _ (code : Code) (notes : Notes) {found : rules.Found} {w : Way} {ts : List ℕ} {al : Allowed} {xs : Table} {sc : Scope}
     {a : Around} {y z : State} (h : Inside code notes found w ts al xs sc a y) (g : After code notes 0 y z) where
   even_is : (ms : List Mark) (su : List s.Sort) (mu : List Mark) (st : List s.Sort) → st ≡ su → ms ≡ mu → even (length su) mu ≡ true →
       even (length st) ms ≡ true
@@ -65,12 +64,12 @@ module _ (code : Code) (notes : Notes) {found : rules.Found} {w : Way} {ts : Lis
   fails_behind (r.in_try e) = r.in_try (open_is ∙ e)
   fails_behind (r.in_function b d f e) = r.in_function (g.arm ∙ b) (g.block ∙ d) (ap (slice_get notes.functions) g.func ∙ f) e
 
-  pub inside_behind : Sees found al.this ys sc2 z.locals → Blank (length sc2) z.locals → length sc ≤ length sc2 →
+  pub inside_behind : {ys : Table} {sc2 : Scope} → Sees found al.this ys sc2 z.locals → Blank (length sc2) z.locals → length sc ≤ length sc2 →
       w.size ≤ length z.locals → Inside code notes found w ts al ys sc2 a z
   inside_behind sees blank longer room = record {
     even = even_is z.tries y.stack y.tries z.stack g.stack g.tries h.even;
     names = names_are ∙ h.names;
-    blocks = subst (λ ds. Blocks code notes (pt z) ts k ds z.locals) (sym g.since)
+    blocks = subst (λ ds. Blocks code notes (pt z) ts (a.defers - a.base) ds z.locals) (sym g.since)
         (blocks_below code notes g.locals (blocks_moved code notes (record { func = sym g.func; arm = sym g.arm; under = sym g.under })
         (names_of z ∙ names_are ∙ sym (names_of y)) h.blocks));
     count = h.count ∙ sums y.under z.under (length y.defers) (length z.defers) g.under (ap length g.since);
@@ -114,9 +113,6 @@ module _ (code : Code) (notes : Notes) {found : rules.Found} {w : Way} {ts : Lis
     };
   }
     where
-      abbrev k : ℕ
-      k = a.defers - a.base
-
       sums : (u v m p : ℕ) → v ≡ u → p ≡ m → u + m ≡ v + p
       sums u v m p e f = omega (arith, e, f)
 

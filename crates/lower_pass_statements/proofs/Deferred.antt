@@ -1,5 +1,5 @@
 -- A deferred block, as a statement.
-use Rattle.std.proofs.Common.{◌≡◌, ℕ, suc, List, [], ◌∷◌, ◌++◌, Option, Some, None, refl, sym, ◌∙◌, subst, ap}
+use Rattle.std.proofs.Common.{◌≡◌, ℕ, suc, ◌+◌, List, [], ◌++◌, Option, Some, None, refl, sym, ◌∙◌, subst, ap}
 use Rattle.std.specs.Prelude.{option_map}
 use Rattle.std.proofs.lemmas.Option.{none-some, same_Some}
 use Rattle.verse_code.specs.declared.codes.Code.{Code}
@@ -24,8 +24,8 @@ use Rattle.lower_notes.specs.Stretches.{Walk}
 use Rattle.lower_notes.specs.Laws.{Beside}
 use Rattle.lower_notes.proofs.Counted as counted
 use Rattle.lower_notes.proofs.Counted.{code_then, walk_then}
-use Rattle.lower_pass_states.proofs.Points.{pt, names_of, over, gives_is}
-use Rattle.lower_pass_states.proofs.Meeting.{Meets, no_value, leads_to, entries}
+use Rattle.lower_pass_states.proofs.Points.{pt, names_of, gives_is}
+use Rattle.lower_pass_states.proofs.Meeting.{Meets, no_value, leads_to}
 use Rattle.lower_pass_states.proofs.Steps as step
 use Rattle.lower_pass_stretches.proofs.Begins.{Starts, starts, Begins}
 use Rattle.lower_pass_stretches.proofs.Going.{Way, If, itself, Going, Steady, then_goes}
@@ -34,7 +34,7 @@ use Rattle.lower_pass_stretches.proofs.Combined.{if_map, ahead_goes, opens_nothi
 use Rattle.lower_pass_stretches.proofs.Inside.{Inside, steady_of}
 use Rattle.lower_pass_contexts.proofs.Deferring.{BlockNoted, inside_block, defer_end_asked, inside_deferring}
 use Rattle.lower_pass_contexts.proofs.Contexts.{many_entries}
-use Rattle.lower_pass_contexts.proofs.After.{after_itself, after_deferred}
+use Rattle.lower_pass_contexts.proofs.After.{After, after_itself, after_deferred}
 use Rattle.lower_pass_forms.proofs.Finishing.{IsOver, drop_goes}
 use Rattle.lower_pass_blocks.proofs.Stated.{Next}
 

@@ -10,7 +10,7 @@ use Rattle.verse_sorts.specs.Sorts as s
 use Rattle.verse_sorts.specs.Sorts.{Sort, Fits, from_never}
 use Rattle.verse_sorts.specs.Typing.{at, AllFit, fit_no, fit_so}
 use Rattle.verse_sorts.proofs.Fitting.{fits_itself, fits_on}
-use Rattle.verse_sorts_values.specs.Operands.{never_here}
+use Rattle.verse_sorts_values.specs.Operands.{never_here, never_behind}
 use Rattle.verse_meaning.specs.Programs.{Program}
 use Rattle.verse_meaning.specs.Residuals as form
 use Rattle.verse_meaning.specs.Residuals.{a_constant, a_variable}
@@ -52,6 +52,7 @@ module _ (p : Program) (f : rules.Found) (al : Allowed) (xs : Table) where
           Fits f.up given q → Fits f.up qa q
       by_taking (fit_so h fit_no) takes.takes_defined v = fits_on f.up h v
       by_taking (fit_so h fit_no) (takes.takes_never (takes.spared_member never_here)) v = fits_on f.up h from_never
+      by_taking (fit_so h fit_no) (takes.takes_never (takes.spared_member (never_behind n))) v = elim n [ ]
 
   pub varying_fits : {qa q : Sort} {pl : Place} → Gives p f al xs (form.varying pl) (qa ∷ []) q → Fits f.up qa q
   varying_fits {qa} {q} {pl} g = by_taking g.operands g.takes g.value

@@ -1,5 +1,5 @@
 -- Behind all statements of a block: its deferred blocks have run.
-use Rattle.std.proofs.Common.{◌≡◌, ℕ, zero, suc, ◌+◌, ◌-◌, ◌≤◌, length, List, [], ◌∷◌, Option, Some, Bool, true, false, refl, sym, ◌∙◌}
+use Rattle.std.proofs.Common.{◌≡◌, ℕ, suc, ◌+◌, ◌-◌, ◌≤◌, length, List, [], ◌∷◌, Option, Some, Bool, true, false, refl, sym, ◌∙◌}
 use Rattle.std.proofs.Common.{subst, ap, arith}
 use Rattle.verse_code.specs.declared.codes.Code.{Code}
 use Rattle.verse_code.specs.declared.operations.Op.TheVariants as o
@@ -56,8 +56,8 @@ module _ (code : Code) (notes : Notes) (ts : List ℕ) where
   }
 
 module _ (found : rules.Found) (code : Code) (notes : Notes) (w : Way) (ts : List ℕ) (al : Allowed) (xs : Table) (sc : Scope) (a : Around)
-    (x : Option State) (here : If x (Inside code notes found w ts al xs sc a)) {k : ℕ} (q : Sort) {ys : Table} {sc2 : Scope}
-    {a2 : Around} (base : a2.base ≡ a.base) (many : a2.defers ≡ k + a.defers) where
+    (x : Option State) (here : If x (Inside code notes found w ts al xs sc a)) (k : ℕ) (q : Sort) (ys : Table) (sc2 : Scope)
+    (a2 : Around) (base : a2.base ≡ a.base) (many : a2.defers ≡ k + a.defers) where
   abbrev Behind : State → Type 0
   Behind z = Next found code notes w ts al k q ys sc2 a2 x z
 

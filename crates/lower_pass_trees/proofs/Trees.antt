@@ -66,7 +66,7 @@ use Rattle.lower_pass_forms.proofs.Operators.{one_then, two_then}
 use Rattle.lower_pass_blocks.proofs.Ways.{returns_go, breaks_go}
 use Rattle.lower_pass_blocks.proofs.Attempted.{negation_goes, or_goes}
 use Rattle.lower_pass_blocks.proofs.Stated.{Next, weaker, plain_goes}
-use Rattle.lower_pass_statements.proofs.Turns.{one_deferred, deferred_in, around_behind, behind_defers, behind_base, stated_defers, none_deferred, none_around}
+use Rattle.lower_pass_statements.proofs.Turns.{one_deferred, deferred_by, deferred_in, around_behind, behind_defers, behind_base, stated_defers, none_deferred, none_around}
 use Rattle.lower_pass_statements.proofs.Turns.{conditions_none, no_defer, first_none, Parts, states_go, next_goes, no_more}
 use Rattle.lower_pass_statements.proofs.Settled.{Settles, settled_lands, value_settles, leaves_go, none_leaves}
 use Rattle.lower_pass_statements.proofs.Conditions.{else_goes, alone_goes, option_goes, logic_goes}
@@ -165,7 +165,7 @@ module _ (p : Program) (found : rules.Found) (differ : ℕ → ℕ → Bool) (co
   no_block : (b : Tree) (bs : Trees) → any_defer (more_trees b bs) ≡ false → deferred_in (one_deferred (statement_of b)) bs ≡ 0
   no_block (tree n pl y) bs e =
       let h = first_none p differ (lower.is_defer_shape y) (any_defer bs) e in
-      none_deferred p differ bs h.1 (one_deferred (statement_of_shape y pl)) ∙ (no_defer p differ y pl h.0).0
+      none_deferred p differ bs h.1 (one_deferred (statement_of_shape y pl)) ∙ (no_defer p differ y pl h.0).one
 
   -- ---- the knot
 
@@ -480,11 +480,11 @@ module _ (p : Program) (found : rules.Found) (differ : ℕ → ℕ → Bool) (co
     more_pass no_trees u m w ts al xs sc z x k q e h above = no_more F code notes w ts al above
     more_pass (more_trees b bs) u m w ts al xs sc z x k q e h above =
         let stated = statement_of b in
-        next_goes F code notes w ts al (one_deferred stated) q (found.sort (number_of b)) (seen_behind b xs) (scope_stated stated sc)
+        next_goes F code notes w ts al stated q (found.sort (number_of b)) (seen_behind b xs) (scope_stated stated sc)
         (around_stated p differ stated z) (stated_beside b sc z) above
         (λ y here. stated_passes b (first_tree b bs u) m w ts al xs sc z y here h.0)
         (λ y i. more_pass bs (rest_trees b bs u) m w ts al (seen_behind b xs) (scope_stated stated sc) (around_stated p differ stated z) x
-        (one_deferred stated + k) (found.sort (number_of b)) y h.1 i)
+        (deferred_by stated k) (found.sort (number_of b)) y h.1 i)
 
     -- a block: what was deferred in it has run behind it
     block_passes : (bs : Trees) → AllOf bs → (w : Way) (ts : List ℕ) (al : Allowed) (xs : Table) (sc : Scope) (z : Around)

@@ -113,7 +113,7 @@ module _ (is : List ItemTree) (arrays events : ℕ → Bool) where
       pub slot : Sort
       pub placed : Placed whole found b xs (base_of whole e) objects slot
       pub path : Path slot indices (sort_of (type_of F e))
-      pub settled : Settled whole found b xs e
+      pub settled : (ends_in_index (completed is) e ≡ true → b.fails ≡ true) → Settled whole found b xs e
       pub operands : AllFit (up is) (target_sorts whole found e) (objects ++ indices)
       pub value : IsValue is arrays events e
       pub keys : has_keys (type_of F e) ≡ true
@@ -133,7 +133,7 @@ module _ (is : List ItemTree) (arrays events : ℕ → Bool) where
       slot = sort_of u;
       placed = place;
       path = subst (λ z. Path (sort_of u) [] (sort_of z)) (sym r) path_no;
-      settled = settles (subst (λ z. Placed whole found b xs (base_of whole (tree m q x)) qs (sort_of z)) (sym r) place);
+      settled = λ fails. settles (subst (λ z. Placed whole found b xs (base_of whole (tree m q x)) qs (sort_of z)) (sym r) place);
       operands = subst (AllFit (up is) (target_sorts whole found (tree m q x))) (sym (ended qs)) fit;
       value = v;
       keys = keys;
@@ -151,10 +151,12 @@ module _ (is : List ItemTree) (arrays events : ℕ → Bool) where
       slot = first.slot;
       placed = first.placed;
       path = path_then first.path more.path;
-      settled = (
-        first.settled,
-        subst (λ z. Reaches whole found z (sorts ts) (sort_of (ty_at is m))) (sym (part_sort is arrays events f)) more.reached,
-      );
+      settled = λ fails.
+          let k = fails (ap (λ z. not (effects.is_function z)) first.value.effects) in (
+            first.settled (λ e. k),
+            subst (λ z. Reaches whole found z (sorts ts) (sort_of (ty_at is m))) (sym (part_sort is arrays events f)) more.reached,
+            k,
+          );
       operands = subst (AllFit (up is) (target_sorts whole found f ++ sorts ts)) (joined first.objects first.indices more.taken)
           (all_joined first.operands more.fit);
       value = value;

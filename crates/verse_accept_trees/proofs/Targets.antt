@@ -55,7 +55,7 @@ module _ (is : List ItemTree) (arrays events : ℕ → Bool) (w : World) (a : Ar
     has_object o = (aimed o).object
 
     is_settled : On → Settled whole (sorted is) b xs e
-    is_settled o = (aimed o).settled
+    is_settled o = (aimed o).settled (λ i. caught is arrays events w a xs b allows n p (t.Shape.assignment m e f) h i)
 
     stores : Aim is arrays events b xs e →
         Stores whole (sorted is) (mode_of m) (sort_of (type_of F f)) (sort_of (type_of F e)) (sort_of (ty_at is n))

@@ -155,15 +155,15 @@ module _ (p : Program) (f : Found) where
     reaches_value : {k q i : Sort} → IsKey k → Fits f.up i k → Reaches (s.map k q) (i ∷ []) q
     reaches_nothing : {is : List Sort} → Reaches s.never is s.never
 
-  -- what `set` writes to: a name or a member is of the sort of what it stands for, and an index of
-  -- that of what it leads to
+  -- what `set` writes to: a name or a member is of the sort of what it stands for, and an index,
+  -- whose failure is taken, of that of what it leads to
   abbrev mutual
     pub Settled : Allowed → Table → Tree → Type 0
     Settled a xs (tree n pl x) = SettledAt a xs n pl x
 
     pub SettledAt : Allowed → Table → ℕ → Place → Shape → Type 0
     SettledAt a xs n pl (t.Shape.index b ts) = Settled a xs b ×
-        Reaches (sort_at b) (sorts_at ts) (f.sort n)
+        Reaches (sort_at b) (sorts_at ts) (f.sort n) × (a.fails ≡ true)
     SettledAt a xs n pl x = Placed p f a xs (base_of p (tree n pl x)) (target_sorts_of x) (f.sort n)
 
   -- a value of the first sort is written where one of the second stands, and what that gives is of
@@ -247,9 +247,13 @@ module _ (p : Program) (f : Found) where
     FineShape a xs n pl (t.Shape.chained op.Or b d) = Fine (tried a) xs b × Fine a xs d ×
         Fits f.up (sort_at b) (f.sort n) × Fits f.up (sort_at d) (f.sort n)
     FineShape a xs n pl (t.Shape.for_form ts b) = FineClauses (tried a) xs ts ×
-        Fine a (seen_after ts xs) b × Fits f.up (s.list (sort_at b)) (f.sort n)
+        Fine a (seen_after ts xs) b × ((q : Sort) × (f.sort n ≡ s.list q) × Fits f.up (sort_at b) q)
     -- operators
     FineShape a xs n pl (t.Shape.chained op.Div b d) = ⊥
+    FineShape a xs n pl (t.Shape.chained op.And b d) =
+        (Fine a xs b × Fits f.up (sort_at d) (f.sort n)) × Fine a xs d ×
+        Gives p f a xs (form.computing op.And (p.is_array n) pl) (sort_at b ∷ sort_at d ∷ [])
+        (f.sort n)
     FineShape a xs n pl (t.Shape.chained o b d) = Fine a xs b × Fine a xs d ×
         Gives p f a xs (form.computing o (p.is_array n) pl) (sort_at b ∷ sort_at d ∷ []) (f.sort n)
     FineShape a xs n pl (t.Shape.compared o b d) = Fine a xs b × Fine a xs d ×
