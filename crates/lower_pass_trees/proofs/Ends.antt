@@ -41,12 +41,12 @@ use Rattle.lower_pass_states.proofs.Points.{pt, over}
 use Rattle.lower_pass_states.proofs.Steps.{turned}
 use Rattle.lower_pass_stretches.proofs.Going.{Way, If, itself, Going}
 use Rattle.lower_pass_stretches.proofs.Inside.{Inside, steady_of}
-use Rattle.lower_pass_forms.proofs.Applied as applied
 use Rattle.lower_pass_forms.proofs.Applied.{noted_found}
 use Rattle.lower_pass_forms.proofs.Calls.{Declared}
 use Rattle.lower_pass_forms.proofs.Finishing.{IsOver, last_goes}
 use Rattle.lower_pass_forms.proofs.Operators.{floor_ends, ceiling_ends}
-use Rattle.lower_pass_forms.proofs.Callees.{Run, Whole, call_goes, print_goes, modulo_goes, spawn_goes, own_call_goes, own_spawn_goes}
+use Rattle.lower_pass_values.proofs.Members.{item_ends}
+use Rattle.lower_pass_forms.proofs.Callees.{ call_goes, print_goes, modulo_goes, spawn_goes, own_call_goes, own_spawn_goes}
 use Rattle.lower_pass_forms.proofs.Callees.{method_ends, await_ends, signal_ends, spawn_method_ends}
 
 -- by what a callee stands for
@@ -60,7 +60,7 @@ pub by_kind : {code : Code} {notes : Notes} {w : Way} {ts : List ℕ} {x : Optio
     ((f : Form) → IsOfQuotient f → by_quotient f → Going code notes w ts x (on_quotient f) (walk_quotient f) k Q) →
     Going code notes w ts x (lower.by_callee callee on_none on_object on_value on_quotient)
     (noting.by_callee callee walk_none walk_object walk_value walk_quotient) k Q
-unfolding lower.by_callee, noting.by_callee
+unfolding lower.by_callee noting.by_callee
 by_kind whole (alone f) g0 g1 g2 g3 w0 w1 w2 w3 i h a b d e = a f i h
 by_kind whole (of_object f) g0 g1 g2 g3 w0 w1 w2 w3 i h a b d e = b f i h
 by_kind whole (of_value f) g0 g1 g2 g3 w0 w1 w2 w3 i h a b d e = d f i h
@@ -119,20 +119,6 @@ module _ (p : Program) (found : rules.Found) (differ : ℕ → ℕ → Bool) (co
   object_ends q m has many beside qo above f i e = elim i [ ]
 
   -- an item of a tuple
-  pick_goes : {u : Option State} (qa q : Sort) → If u (IsOver code notes (qa ∷ []) x) → (k : Option ℕ) →
-      Gives p F al xs (form.picking k) (qa ∷ []) q →
-      Going code notes w ts u (c.one (o.Item (place_in k))) n.last (with_value q x) (λ z. Unit {0})
-  pick_goes qa q above (Some k) e = last_goes code notes (c.one (o.Item k)) (λ s. o.Item k) (λ s. refl) (qa ∷ [])
-      (λ y i. steady_of code notes (here y i)) above q
-      (λ y i s m. applied.item_passes p found code notes al xs y (here y i).even m k e.operands e.takes e.value)
-  pick_goes qa q above None e = last_goes code notes (c.one (o.Item 0)) (λ s. o.Item 0) (λ s. refl) (qa ∷ [])
-      (λ y i. steady_of code notes (here y i)) above q
-      (λ y i s m. by_taking y i e.operands e.takes)
-    where
-      by_taking : (y : State) → x ≡ Some y → {taken : List Sort} {given : Sort} {j : ℕ} → AllFit (parent_of notes) (qa ∷ []) taken →
-          Takes p F al xs (form.picking None) taken given → Asked code notes j (pt (over (turned (qa ∷ []) []) y)) (o.Item 0)
-      by_taking y i h (takes.takes_never takes.spared_item) = applied.spared p found code notes al xs y (here y i).even h never_here
-
   pub pick_ends : {u : Option State} (qa q : Sort) → If u (IsOver code notes (qa ∷ []) x) → (f : Form) (rest : Trees) → f ≡ picked rest →
       Gives p F al xs f (qa ∷ []) q →
       Going code notes w ts u (apply.finish f 0 true) (walks.finish f 0 true) (with_value q x) (λ z. Unit {0})
@@ -142,9 +128,9 @@ module _ (p : Program) (found : rules.Found) (differ : ℕ → ℕ → Bool) (co
     where
       by_picked : (rest : Trees) → Gives p F al xs (picked rest) (qa ∷ []) q →
           Going code notes w ts u (apply.finish (picked rest) 0 true) (walks.finish (picked rest) 0 true) (with_value q x) (λ z. Unit {0})
-      by_picked no_trees e = pick_goes qa q above None e
-      by_picked (more_trees b no_trees) e = pick_goes qa q above (literal_of b) e
-      by_picked (more_trees b (more_trees d rest)) e = pick_goes qa q above None e
+      by_picked no_trees e = item_ends p found differ code notes declared fine w ts al xs sc a x here qa q above None e
+      by_picked (more_trees b no_trees) e = item_ends p found differ code notes declared fine w ts al xs sc a x here qa q above (literal_of b) e
+      by_picked (more_trees b (more_trees d rest)) e = item_ends p found differ code notes declared fine w ts al xs sc a x here qa q above None e
 
   -- Floor and Ceil
   pub quotient_ends : {u : Option State} (qa qb q : Sort) → If u (IsOver code notes (qb ∷ qa ∷ []) x) → (f : Form) → IsOfQuotient f →

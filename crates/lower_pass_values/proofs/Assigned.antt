@@ -68,7 +68,7 @@ use Rattle.lower_pass_forms.proofs.Finishing.{IsOver, last_goes, step_goes, drop
 use Rattle.lower_pass_forms.proofs.Applied.{noted_found}
 use Rattle.lower_pass_forms.proofs.Calls.{Declared}
 use Rattle.lower_pass_blocks.proofs.Binding.{bound, IsAbove, put_goes, stays_goes, sees_more, inside_bound}
-use Rattle.lower_pass_values.proofs.Exact.{Settled, IndexFails, index_sorts, Stores, stores_value, stores_nothing}
+use Rattle.verse_sound_rules.specs.Fine.{Settled, Stores, stores_value, stores_nothing}
 use Rattle.lower_pass_values.proofs.Operands.{inside_raised, value_over, after_last_goes}
 use Rattle.lower_pass_values.proofs.Targets.{TargetOf, target_here, has_base_so}
 
@@ -421,20 +421,10 @@ module _ (p : Program) (found : rules.Found) (al : Allowed) (xs : Table) where
       (length-append (target_sorts p found b) (sorts_at p found is)) (placed_many b g.0 h) (sorts_many p found is)
   placed_many (tree i pl z) g h = elim g [ ]
 
-  index_many : (b : Tree) → length (index_sorts p found b) ≡ target_operands b
-  index_many (tree i pl (t.Shape.index b is)) = sum (length-append (index_sorts p found b) (sorts_at p found is)) (index_many b)
-      (sorts_many p found is)
-    where
-      sum : {i j k n m : ℕ} → i ≡ j + k → j ≡ n → k ≡ m → i ≡ m + n
-      sum e f g = omega (arith, e, f, g)
-  index_many (tree i pl x) = refl
-
   -- an index of what `set` writes to takes a failure
-  pub index_fails : (b : Tree) → IndexFails p found al b → target_operands b ≢ 0 → al.fails ≡ true
-  index_fails b h some = h (λ e. some (sym (index_many b) ∙ none (index_sorts p found b) e))
-    where
-      none : (is : List Sort) → is ≡ [] → length is ≡ 0
-      none is e = ap length e
+  pub index_fails : (b : Tree) → Settled p found al xs b → target_operands b ≢ 0 → al.fails ≡ true
+  index_fails (tree i pl (t.Shape.index b is)) h some = h.2
+  index_fails (tree i pl x) h some = absurd (some refl)
 
   -- or an operand gives no value, so far as is known of the form
   pub fails_told : {x : Mode} {pl : Place} {q : Sort} (b : Tree) (qv : Sort) → FineTarget p found al xs b →

@@ -39,7 +39,7 @@ use Rattle.lower_pass_stretches.proofs.Single.{IsValue}
 use Rattle.lower_pass_stretches.proofs.Inside.{Inside, steady_of}
 use Rattle.lower_pass_forms.proofs.Finishing.{IsOver, over_itself, last_goes, drops_go}
 use Rattle.lower_pass_forms.proofs.Applied.{noted_found}
-use Rattle.lower_pass_values.proofs.Exact.{Reaches, reaches_element, reaches_value, reaches_nothing}
+use Rattle.verse_sound_rules.specs.Fine.{Reaches, reaches_element, reaches_value, reaches_nothing}
 use Rattle.lower_pass_values.proofs.Operands.{no_operand_goes, operand_goes, value_lands}
 
 -- the sorts of indices, as they are noted

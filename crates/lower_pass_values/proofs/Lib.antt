@@ -1,4 +1,3 @@
-pub mod Exact
 pub mod Besides
 pub mod Operands
 pub mod Indices

@@ -39,7 +39,7 @@ use Rattle.lower_pass_contexts.proofs.After.{After, after_itself, after_below}
 use Rattle.lower_pass_forms.proofs.Finishing.{IsOver, steady_over, last_goes}
 use Rattle.lower_pass_forms.proofs.Applied.{noted_found}
 use Rattle.lower_pass_blocks.proofs.Stated.{weaker}
-use Rattle.lower_pass_values.proofs.Exact.{PairsFit, IsMap, is_map}
+use Rattle.verse_sound_rules.specs.Fine.{PairsFit, IsMap, is_map}
 
 -- a value above one that is of another sort
 pub gives_over : (q r : Sort) (y : State) → gives 1 q (over (r ∷ []) y) ≡ over (q ∷ []) y

@@ -52,7 +52,7 @@ use Rattle.lower_pass_forms.proofs.Finishing.{IsOver, over_itself, step_goes}
 use Rattle.lower_pass_forms.proofs.Applied.{noted_found}
 use Rattle.lower_pass_forms.proofs.Calls.{Declared}
 use Rattle.lower_pass_forms.proofs.Callees.{own_goes}
-use Rattle.lower_pass_values.proofs.Exact.{Settled, Reaches}
+use Rattle.verse_sound_rules.specs.Fine.{Settled, Reaches}
 use Rattle.lower_pass_values.proofs.Operands.{over_here, raised_up}
 use Rattle.lower_pass_values.proofs.Indices.{noted_indices, noted_many, noted_path}
 

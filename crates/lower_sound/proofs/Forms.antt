@@ -196,7 +196,7 @@ module _ (p : Program) (differ : ℕ → ℕ → Bool) (f : Found) (known : Fine
     -- operators
     shape_orderly (t.Shape.chained op.Div b c) n pl v u a xs sc z h g l = elim h [ ]
     shape_orderly (t.Shape.chained op.And b c) n pl v u a xs sc z h g l =
-        both (orderly b (left b c u) a xs sc z h.0.0 g l) (both (just o.Drop refl)
+        both (orderly b (left b c u) a xs sc z h.0 g l) (both (just o.Drop refl)
         (orderly c (right b c u) a xs sc z h.1 g l))
     shape_orderly (t.Shape.chained op.Add b c) n pl v u a xs sc z h g l =
         both (orderly b (left b c u) a xs sc z h.0 g l)

@@ -250,10 +250,8 @@ module _ (p : Program) (f : Found) where
         Fine a (seen_after ts xs) b × ((q : Sort) × (f.sort n ≡ s.list q) × Fits f.up (sort_at b) q)
     -- operators
     FineShape a xs n pl (t.Shape.chained op.Div b d) = ⊥
-    FineShape a xs n pl (t.Shape.chained op.And b d) =
-        (Fine a xs b × Fits f.up (sort_at d) (f.sort n)) × Fine a xs d ×
-        Gives p f a xs (form.computing op.And (p.is_array n) pl) (sort_at b ∷ sort_at d ∷ [])
-        (f.sort n)
+    FineShape a xs n pl (t.Shape.chained op.And b d) = Fine a xs b × Fine a xs d ×
+        Fits f.up (sort_at d) (f.sort n)
     FineShape a xs n pl (t.Shape.chained o b d) = Fine a xs b × Fine a xs d ×
         Gives p f a xs (form.computing o (p.is_array n) pl) (sort_at b ∷ sort_at d ∷ []) (f.sort n)
     FineShape a xs n pl (t.Shape.compared o b d) = Fine a xs b × Fine a xs d ×
