@@ -143,16 +143,9 @@ module _ (is : List ItemTree) (arrays events : ℕ → Bool) where
         let j = join_both (all_classes is) (type_of F e) (type_of F f) in
         (of_row is n (sort_of (type_of F e)) _ r j.0, of_row is n (sort_of (type_of F f)) _ r j.1)
 
-    pub and_gives : (v : Bool) (e f : Tree) → At is w a xs n p (t.Shape.chained op.And e f) →
-        Give (form.computing op.And v p) (sort_of (type_of F e) ∷ sort_of (type_of F f) ∷ [])
-    and_gives v e f h = record {
-      no_case = tt;
-      taken = sort_of (type_of F e) ∷ sort_of (type_of F f) ∷ [];
-      given = sort_of (type_of F f);
-      operands = all_itself (up is) _;
-      takes = takes.takes_and;
-      value = is_row is n _ (its_row is w a xs n p (t.Shape.chained op.And e f) h);
-    }
+    pub and_fits : (e f : Tree) → At is w a xs n p (t.Shape.chained op.And e f) →
+        Fits (up is) (sort_of (type_of F f)) (sort_of (ty_at is n))
+    and_fits e f h = is_row is n (type_of F f) (its_row is w a xs n p (t.Shape.chained op.And e f) h)
 
     -- ---- arithmetic
 

@@ -111,8 +111,7 @@ module _ (is : List ItemTree) (arrays events : ℕ → Bool) where
           (hole_sorts (program is arrays events) (sorted is) hs)
       pub minus : (e : Tree) → Is (t.Shape.minus e) → Give (form.negating p) (part e ∷ [])
       pub query : (e : Tree) → Is (t.Shape.query e) → Give form.querying (part e ∷ [])
-      pub both : (v : Bool) (e f : Tree) → Is (t.Shape.chained op.And e f) →
-          Give (form.computing op.And v p) (part e ∷ part f ∷ [])
+      pub both : (e f : Tree) → Is (t.Shape.chained op.And e f) → Fits (up is) (part f) own
       pub sum : (e f : Tree) → Is (t.Shape.chained op.Add e f) →
           arrays n ≡ is_array_type (ty_at is n) →
           Give (form.computing op.Add (arrays n) p) (part e ∷ part f ∷ [])

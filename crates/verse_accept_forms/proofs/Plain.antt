@@ -19,7 +19,7 @@ use Rattle.verse_check_typing.specs.TypeRules.{has_value, takes_item, is_rounded
 use Rattle.verse_meaning.specs.Residuals as form
 use Rattle.verse_sorts.specs.Sorts as s
 use Rattle.verse_sorts.specs.Sorts.{Sort, Fits}
-use Rattle.verse_sorts.proofs.Fitting.{all_itself}
+use Rattle.verse_sorts.proofs.Fitting.{fits_itself, all_itself}
 use Rattle.verse_sorts_types.specs.SortOf.{sort_of}
 use Rattle.verse_sorts_types.proofs.Fitting as fitting
 use Rattle.verse_sound_rules.specs.Found.{Allowed}
@@ -27,7 +27,7 @@ use Rattle.verse_sound_rules.specs.Forms.{Gives}
 use Rattle.verse_sound_rules.specs.Forms as takes
 use Rattle.verse_accept_rows.specs.Found.{final}
 use Rattle.verse_accept_fine.specs.Sorted.{At, ty_at, all_classes, up, sorted, program, Allows}
-use Rattle.verse_accept_fine.proofs.Base.{types, effects, its_row, of_row, is_row}
+use Rattle.verse_accept_fine.proofs.Base.{types, effects, its_row, its_sort, of_row, is_row}
 use Rattle.verse_accept_fine.proofs.Operators.{caught}
 use Rattle.verse_accept_fine.proofs.Control.{async_waits}
 
@@ -149,8 +149,8 @@ module _ (is : List ItemTree) (arrays events : ℕ → Bool) (w : World) (a : Ar
   pub bare_event_fits : Is t.Shape.bare_event → (q : Sort) × Fits (up is) (s.event q) own
   bare_event_fits h = (s.any, is_row is n (ty.event ty.void) (its_row is w a xs n p t.Shape.bare_event h))
 
-  pub for_fits : (ts : Trees) (e : Tree) → Is (t.Shape.for_form ts e) → Fits (up is) (s.list (part e)) own
-  for_fits ts e h = is_row is n (ty.array (type_of F e)) (its_row is w a xs n p (t.Shape.for_form ts e) h)
+  pub for_fits : (ts : Trees) (e : Tree) → Is (t.Shape.for_form ts e) → (q : Sort) × (own ≡ s.list q) × Fits (up is) (part e) q
+  for_fits ts e h = (part e, its_sort is w a xs n p (t.Shape.for_form ts e) h, fits_itself (up is) (part e))
 
   pub block_fits : (e : Tree) → Is (t.Shape.block_form e) → Fits (up is) (part e) own
   block_fits e h = is_row is n (type_of F e) (its_row is w a xs n p (t.Shape.block_form e) h)

@@ -446,19 +446,22 @@ module _ (is : List ItemTree) (arrays events : ℕ → Bool) (quiet : Quiet is) 
           f.0,
           f.1,
         )
-    shape_fine a b c xs n p (t.Shape.for_form ts (tree m q s)) g i v h k o l = (
-      clauses_fine (around.caught a) (allowed.tried b) (caught c) refl xs n ts (clauses_all ts g.0) (takes_of a xs n p ts (tree m q s) o)
-          h.0 k.0,
-      subst (λ ys. Fine whole found b ys (tree m q s)) (all_behind_is is w n (around.caught a) xs ts h.0)
-          (part_fine as_block tt (around.repeated a) b (repeated c) refl serves_free (all_behind w ts xs) n (tree m q s) g.1 h.1 k.1),
-      (plain_at c xs n p).for_form ts (tree m q s) o,
-    )
+    shape_fine a b c xs n p (t.Shape.for_form ts (tree m q s)) g i v h k o l =
+        let f = (plain_at c xs n p).for_form ts (tree m q s) o in (
+          clauses_fine (around.caught a) (allowed.tried b) (caught c) refl xs n ts (clauses_all ts g.0)
+              (takes_of a xs n p ts (tree m q s) o) h.0 k.0,
+          subst (λ ys. Fine whole found b ys (tree m q s)) (all_behind_is is w n (around.caught a) xs ts h.0)
+              (part_fine as_block tt (around.repeated a) b (repeated c) refl serves_free (all_behind w ts xs) n (tree m q s) g.1 h.1 k.1),
+          f.0,
+          f.1,
+          f.2,
+        )
     -- operators
     shape_fine a b c xs n p (t.Shape.chained op.Div e f) g i v h k o l = absurd v
     shape_fine a b c xs n p (t.Shape.chained op.And (tree m q s) (tree j r z)) g i v h k o l = (
       part_fine as_expression tt (around.freely a) b (freely c) refl serves_free xs n (tree m q s) g.0 h.0 k.0,
       part_fine as_expression tt (around.freely a) b (freely c) refl serves_free xs n (tree j r z) g.1 h.1 k.1,
-      (values_at c xs n p).both (arrays n) (tree m q s) (tree j r z) o,
+      (values_at c xs n p).both (tree m q s) (tree j r z) o,
     )
     shape_fine a b c xs n p (t.Shape.chained op.Add (tree m q s) (tree j r z)) g i v h k o l = (
       part_fine as_expression tt (around.freely a) b (freely c) refl serves_free xs n (tree m q s) g.0 h.0 k.0,

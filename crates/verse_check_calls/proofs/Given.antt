@@ -18,3 +18,18 @@ from is n (f ∷ fs) = by f.default (from is (n + 1) fs)
 
 pub all_lacking : (is : List ℕ) (fs : List FieldInfo) → all_have is (lacking_from 0 fs) ≡ all_given is 0 fs
 all_lacking is fs = from is 0 fs
+
+pub one_given : (is : List ℕ) (n : ℕ) → has_number n is ≡ all_have is (n ∷ [])
+one_given is n = by (has_number n is)
+  where
+    by : (b : Bool) → b ≡ (b && true)
+    by true = refl
+    by false = refl
+
+pub both_given : (is ns ms : List ℕ) → all_have is (ns ++ ms) ≡ (all_have is ns && all_have is ms)
+both_given is [] ms = refl
+both_given is (n ∷ ns) ms = ap (λ b. has_number n is && b) (both_given is ns ms) ∙ by (has_number n is)
+  where
+    by : (b : Bool) → (b && (all_have is ns && all_have is ms)) ≡ ((b && all_have is ns) && all_have is ms)
+    by true = refl
+    by false = refl

@@ -15,7 +15,7 @@ ghost use Rattle.verse_base.specs.declared.rules.TheConstants.{TYPES_DIFFER, UNC
 
 use crate::members::field_by;
 use crate::names::class_type;
-use shared_list::SharedList;
+use shared_list::{Halves, SharedList};
 use verse_base::refusals::Memory;
 use verse_base::rules::{LACKING, MEMBERLESS, TYPES_DIFFER, UNCALLABLE};
 use verse_check_typing::facts::Facts;
@@ -23,6 +23,7 @@ use verse_check_typing::judged::Judged;
 use verse_check_typing::sets::NumberSet;
 use verse_rules_types::fitting::does_fit;
 use verse_tree::exprs::Given;
+use verse_tree::fields::FieldList;
 use verse_tree::tables::{Ref, Ty};
 
 fn does_fit_field(facts: &Facts<'_>, class: u32, ty: &Ty, place: Option<u32>) -> bool
@@ -92,20 +93,25 @@ fn places(facts: &Facts<'_>, class: u32, parts: &[Given]) -> Result<NumberSet, M
 }
 
 /// Whether all these places are given.
+#[tactic(auto, using(crate::proofs::Given::one_given, crate::proofs::Given::both_given))]
 fn are_all_given(given: &NumberSet, lacking: &SharedList<u32>) -> bool
     ensures { result ≡ all_have (numbers_of given.now) lacking.now }
 {
-    'places: for at in 0..lacking.len() {
-        if let Some(place) = lacking.get(at)
-            && !given.has(*place)
-        {
-            return false;
-        }
+    match lacking.halves() {
+        Halves::Nothing => true,
+        Halves::One(place) => given.has(*place),
+        Halves::Two(left, right) => are_all_given(given, left) && are_all_given(given, right),
     }
-    true
 }
 
+/// Whether all fields of a class that have no default are given.
 #[tactic(auto, using(crate::proofs::Given::all_lacking))]
+fn gives_all(given: &NumberSet, fields: &FieldList) -> bool
+    ensures { result ≡ m.all_given (numbers_of given.now) 0 fields.now }
+{
+    are_all_given(given, fields.lacking())
+}
+
 fn has_all(facts: &Facts<'_>, class: u32, parts: &[Given]) -> Result<bool, Memory>
     ensures { IfOk result (λ b. b ≡
         m.has_all (facts_of facts.now) class (givens (map given_of parts.now))) }
@@ -113,7 +119,7 @@ fn has_all(facts: &Facts<'_>, class: u32, parts: &[Given]) -> Result<bool, Memor
     let given = places(facts, class, parts)?;
     match facts.classes().get(class as usize) {
         None => Ok(true),
-        Some(info) => Ok(are_all_given(&given, info.fields.lacking())),
+        Some(info) => Ok(gives_all(&given, &info.fields)),
     }
 }
 

@@ -247,7 +247,7 @@ module _ (p : Program) (f : Found) where
     FineShape a xs n pl (t.Shape.chained op.Or b d) = Fine (tried a) xs b × Fine a xs d ×
         Fits f.up (sort_at b) (f.sort n) × Fits f.up (sort_at d) (f.sort n)
     FineShape a xs n pl (t.Shape.for_form ts b) = FineClauses (tried a) xs ts ×
-        Fine a (seen_after ts xs) b × ((q : Sort) × (f.sort n ≡ s.list q) × Fits f.up (sort_at b) q)
+        Fine a (seen_after ts xs) b × (q : Sort) × (f.sort n ≡ s.list q) × Fits f.up (sort_at b) q
     -- operators
     FineShape a xs n pl (t.Shape.chained op.Div b d) = ⊥
     FineShape a xs n pl (t.Shape.chained op.And b d) = Fine a xs b × Fine a xs d ×

@@ -2,5 +2,6 @@
 //! rests on. Read `specs/Found`, `specs/Forms` (the forms with operands), `specs/Fine` (one case
 //! for each shape of a tree), `specs/Programs`.
 //!
-//! The public lemmas, which crates above cite, are those of `proofs/Tables` and `proofs/Stored`.
+//! The public lemmas, which crates above cite, are those of `proofs/Tables`, `proofs/Stored`
+//! and `proofs/Both`.
 #![tactic(auto)]

@@ -45,6 +45,7 @@ use Rattle.verse_sound_rules.specs.Fine.{target_sorts, target_sorts_of}
 use Rattle.verse_sound_rules.specs.Fine.{on_callee, on_member, on_statement, seen_behind, seen_after, stated_behind, Generates, Defines}
 use Rattle.verse_sound_rules.specs.Fine.{IsEnumValue, is_enum_value}
 use Rattle.verse_sound_rules.specs.Fine.{ArmFits, arm_fits, no_subject}
+use Rattle.verse_sound_rules.proofs.Both.{both_gives}
 use Rattle.verse_sound_trees.specs.Names.{Holds, holds_value, holds_cell, Sees}
 use Rattle.verse_sound_trees.specs.Outcomes.{any_names, gives, fails, returns, breaks}
 use Rattle.verse_sound_trees.specs.Going.{Level, bare, turns, Kept, LeftAt, Ready, Comes, Within}
@@ -69,6 +70,10 @@ use Rattle.verse_sound_trees.proofs.Levels.{Taken, taken_are, generates_taken}
 
 no_both : {A : Type 0} → false ≡ true → A
 no_both h = cc
+
+-- a list of what fits the elements of a list fits that
+list_up : {up : ℕ → Option ℕ} {q r w : Sort} → w ≡ s.list r → Fits up q r → Fits up (s.list q) w
+list_up {up = up} {q = q} e f = subst (λ z. Fits up (s.list q) z) (sym e) (s.fits_list f)
 
 -- a context that fails leaves a clock that differs in steps alone
 calm_of : (w : World) {x : Outcome} (st : State) → Keeps false w x → x ≡ o.failed st → Calm w.state.clock st.clock
@@ -346,12 +351,13 @@ module _ (p : Program) (f : Found) (top : Level) (fuel : ℕ) (known : Known p f
     shape_well (t.Shape.for_form ts b) a xs n pl t e h see = λ l g sp rd u w gr k.
         attempted_typed p f l w _ _ k (λ st same. ((known.undo g).first_domain ts b n pl a.waits e w st same).0)
         (clauses_typed ts a xs v.unit s.any u e h.0 (sees_more f gr see) is_any l g sp w k)
-        (λ u1 e1 y z g1 k1 i se. up_to p f l h.2 (level_typed ts a xs b y s.any (v.array v.no_vals) pl u1 e1 h.0
+        (λ u1 e1 y z g1 k1 i se. up_to p f l (list_up h.3 h.4) (level_typed ts a xs b y s.any (v.array v.no_vals) pl u1 e1 h.0
         (λ u2 e2 se2. ev_well b a (seen_after ts xs) u2 e2 h.1 se2) l g sp rd se i (is_list no_all) z k1))
-        (λ z kz. gives_value p f l e (v.array v.no_vals) kz (is_up f.up (is_list no_all) h.2))
+        (λ z kz. gives_value p f l e (v.array v.no_vals) kz (is_up f.up (is_list no_all) (list_up h.3 h.4)))
     shape_well (t.Shape.chained op.Div b d) a xs n pl t e h see = absurd h
     shape_well (t.Shape.chained op.And b d) a xs n pl t e h see =
-        list_well xs t a e (form.computing op.And (p.is_array n) pl) (sort_at p f b ∷ sort_at p f d ∷ []) (f.sort n) (b ∷ d ∷ []) h.2 see
+        list_well xs t a e (form.computing op.And (p.is_array n) pl) (sort_at p f b ∷ sort_at p f d ∷ []) (f.sort n) (b ∷ d ∷ [])
+        (both_gives p f a xs (p.is_array n) pl (sort_at p f b) (sort_at p f d) (f.sort n) h.2) see
         (ev_well b a xs t e h.0 see, (ev_well d a xs t e h.1 see, tt))
     shape_well (t.Shape.chained op.Add b d) a xs n pl t e h see =
         list_well xs t a e (form.computing op.Add (p.is_array n) pl) (sort_at p f b ∷ sort_at p f d ∷ []) (f.sort n) (b ∷ d ∷ []) h.2 see

@@ -38,6 +38,7 @@ use Rattle.verse_sound_rules.specs.Fine.{sort_at, sorts_at, hole_sorts, pair_sor
 use Rattle.verse_sound_rules.specs.Fine.{object_sort}
 use Rattle.verse_sound_rules.specs.Fine.{target_sorts, target_sorts_of, on_statement, seen_behind, seen_after}
 use Rattle.verse_sound_rules.specs.Fine.{stated_behind, Generates, Defines}
+use Rattle.verse_sound_rules.proofs.Both.{both_gives}
 use Rattle.verse_sound_trees.specs.Names.{Sees}
 use Rattle.verse_sound_trees.specs.Outcomes.{any_names}
 use Rattle.verse_sound_trees.specs.Going.{turns, Kept, Comes, Within}
@@ -306,7 +307,8 @@ module _ (p : Program) (f : Found) (n : ℕ) (leave : (g : ℕ) → ContextLeave
     shape_stays (t.Shape.chained op.Div b d) a xs i pl t e h m see = absurd h
     shape_stays (t.Shape.chained op.And b d) a xs i pl t e h m see =
         list_rests a xs t e (form.computing op.And (p.is_array i) pl) (sort_at p f b ∷ sort_at p f d ∷ []) (f.sort i)
-        (b ∷ d ∷ []) h.2 tt see (good b a xs t e h.0 m.0 see, (good d a xs t e h.1 m.1 see, tt))
+        (b ∷ d ∷ []) (both_gives p f a xs (p.is_array i) pl (sort_at p f b) (sort_at p f d) (f.sort i) h.2) tt see
+        (good b a xs t e h.0 m.0 see, (good d a xs t e h.1 m.1 see, tt))
     shape_stays (t.Shape.chained op.Add b d) a xs i pl t e h m see =
         list_rests a xs t e (form.computing op.Add (p.is_array i) pl) (sort_at p f b ∷ sort_at p f d ∷ []) (f.sort i)
         (b ∷ d ∷ []) h.2 tt see (good b a xs t e h.0 m.0 see, (good d a xs t e h.1 m.1 see, tt))
