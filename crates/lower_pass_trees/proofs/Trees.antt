@@ -381,11 +381,11 @@ module _ (p : Program) (found : rules.Found) (differ : ℕ → ℕ → Bool) (co
         (λ i e g. trees_pass b (left b d u) w (i ∷ ts) (rules.tried al) xs sc (enclosed z) e h.0 g)
         (trees_pass d (right b d u) w ts al xs sc z x h.1 here)
     shapes_pass (t.Shape.for_form bs b) n pl v u w ts al xs sc z x h here =
-        let list = h.2.0 in
-        for_goes F code notes w ts al xs sc z x here (found.sort n) list h.2.1 pl
+        let list = h.2 in
+        for_goes F code notes w ts al xs sc z x here (found.sort n) list h.3 pl
         (λ m. beside.clauses_of p found differ bs (hidden ∷ sc) (enclosed z) (λ e. body_beside b e z m (length sc)))
         (λ m. levels_pass bs (conditions bs b u) w ts al z (length sc) (found.sort n) xs (hidden ∷ sc) h.0 (λ e. body_beside b e z m (length sc))
-        (λ e. body_goes F code notes w ts al z (length sc) (found.sort n) (seen_after bs xs) e list (found.sort (number_of b)) h.2.1 h.2.2
+        (λ e. body_goes F code notes w ts al z (length sc) (found.sort n) (seen_after bs xs) e list (found.sort (number_of b)) h.3 h.4
         (beside.trees p found differ b e z)
         (λ y inside. trees_pass b (behind_all bs b u) w ts al (seen_after bs xs) e z y h.1 inside) m))
     -- operators
