@@ -227,43 +227,43 @@ module _ (p : Program) (found : rules.Found) (differ : ℕ → ℕ → Bool) (fi
 
     module _ (stands : Stands (tables code notes) (everywhere code notes) 0 s (c.bodies_from p differ (b ∷ bs) s))
         (states : Noted code notes s.at (of_body begun ++ of_rest (behind (of_body begun) s.at)))
-        where
-      abbrev other : Piece
-      other = c.bodies_from p differ bs (past s own)
+      where
+        abbrev other : Piece
+        other = c.bodies_from p differ bs (past s own)
 
-      own_noted : Noted code notes s.at (of_body (at_entry k here.note.params (max (length b.scope) own.locals)))
-      own_noted = subst (λ z. Noted code notes s.at (of_body z)) (entry_is knot k b here s is_func)
-          (noted_first code notes (of_body begun) (of_rest (behind (of_body begun) s.at)) s.at
-          states)
+        own_noted : Noted code notes s.at (of_body (at_entry k here.note.params (max (length b.scope) own.locals)))
+        own_noted = subst (λ z. Noted code notes s.at (of_body z)) (entry_is knot k b here s is_func)
+            (noted_first code notes (of_body begun) (of_rest (behind (of_body begun) s.at)) s.at
+            states)
 
-      pub rest_noted : Noted code notes (past s own).at (of_rest (past s own).at)
-      rest_noted = subst (λ i. Noted code notes i (of_rest i)) same
-          (noted_rest code notes (of_body begun) (of_rest (behind (of_body begun) s.at)) s.at
-          states)
+        pub rest_noted : Noted code notes (past s own).at (of_rest (past s own).at)
+        rest_noted = subst (λ i. Noted code notes i (of_rest i)) same
+            (noted_rest code notes (of_body begun) (of_rest (behind (of_body begun) s.at)) s.at
+            states)
 
-      pub rest_stand : Stands (tables code notes) (everywhere code notes) 0 (past s own) other
-      rest_stand = rest_stands own other stands
+        pub rest_stand : Stands (tables code notes) (everywhere code notes) 0 (past s own) other
+        rest_stand = rest_stands own other stands
 
-      pub more_pass : Passed (suc k) (past s own) bs (of_rest (past s own).at) →
-          Passed k s (b ∷ bs) (of_body begun ++ of_rest (behind (of_body begun) s.at))
-      more_pass h = record {
-        sound = all_more code notes (of_body begun) (of_rest (behind (of_body begun) s.at)) s.at
-            (subst (λ z. AllSound code notes s.at (of_body z))
-            (sym (entry_is knot k b here s is_func))
-            (body_sound knot k b here s is_func (first_stands own other stands) own_noted))
-            (subst (λ i. AllSound code notes i (of_rest i)) (sym same) h.sound);
-        begins = begins;
-      }
-        where
-          begins : (i : ℕ) (f : Func) (note : FuncNote) → slice_get (funcs_from p differ (b ∷ bs) s) i ≡ Some f →
-              slice_get notes.functions (i + k) ≡ Some note →
-              r.Begins code notes f (i + k) note
-          begins zero f note e i = subst (λ f. r.Begins code notes f (0 + k) note) (same_Some _ _ e)
-              (subst (λ g. slice_get notes.functions g ≡ Some note →
-              r.Begins code notes (func_of p differ s b own) g note) (sym (first k))
-              (body_begins knot k b here s is_func (first_stands own other stands) own_noted note) i)
-          begins (suc i) f note e j = subst (λ g. slice_get notes.functions g ≡ Some note →
-              r.Begins code notes f g note) (sym (later i k)) (h.begins i f note e) j
+        pub more_pass : Passed (suc k) (past s own) bs (of_rest (past s own).at) →
+            Passed k s (b ∷ bs) (of_body begun ++ of_rest (behind (of_body begun) s.at))
+        more_pass h = record {
+          sound = all_more code notes (of_body begun) (of_rest (behind (of_body begun) s.at)) s.at
+              (subst (λ z. AllSound code notes s.at (of_body z))
+              (sym (entry_is knot k b here s is_func))
+              (body_sound knot k b here s is_func (first_stands own other stands) own_noted))
+              (subst (λ i. AllSound code notes i (of_rest i)) (sym same) h.sound);
+          begins = begins;
+        }
+          where
+            begins : (i : ℕ) (f : Func) (note : FuncNote) → slice_get (funcs_from p differ (b ∷ bs) s) i ≡ Some f →
+                slice_get notes.functions (i + k) ≡ Some note →
+                r.Begins code notes f (i + k) note
+            begins zero f note e i = subst (λ f. r.Begins code notes f (0 + k) note) (same_Some _ _ e)
+                (subst (λ g. slice_get notes.functions g ≡ Some note →
+                r.Begins code notes (func_of p differ s b own) g note) (sym (first k))
+                (body_begins knot k b here s is_func (first_stands own other stands) own_noted note) i)
+            begins (suc i) f note e j = subst (λ g. slice_get notes.functions g ≡ Some note →
+                r.Begins code notes f g note) (sym (later i k)) (h.begins i f note e) j
 
   module _ (knot : Knot) where
     pub bodies_pass : (bs : List Body) (k : ℕ) (s : Spot) (x : Option State) → SoFar bs k →

@@ -129,6 +129,8 @@ module _ (p : Program) (found : Found) (differ : ℕ → ℕ → Bool) (files : 
       own m j g way note =
           let has = stands k m j (method_of p found differ files k m j made h way) in
           subst (λ (z : FuncNote). (first : Sort) × (z.params ≡ first ∷ rest_of z.params) ×
-          r.Fit code notes (s.obj k) first) (same_Some _ _ (sym has.is_note ∙ note))
-          (s.obj has.class, params_of has ∙ ap (λ qs. s.obj has.class ∷ rest_of qs) (sym (params_of has)),
-          fits_obj has.inherits)
+          r.Fit code notes (s.obj k) first) (same_Some _ _ (sym has.is_note ∙ note)) (
+            s.obj has.class,
+            params_of has ∙ ap (λ qs. s.obj has.class ∷ rest_of qs) (sym (params_of has)),
+            fits_obj has.inherits,
+          )

@@ -1,15 +1,11 @@
 -- What ends a call, an index or a spawned call, by what its callee stands for.
-use Rattle.std.proofs.Common.{◌≡◌, ℕ, zero, suc, length, List, [], ◌∷◌, ◌++◌, Option, Some, None, Bool, true, refl, sym, ◌∙◌, subst, ap}
+use Rattle.std.proofs.Common.{◌≡◌, ℕ, length, List, [], ◌∷◌, Option, Some, None, Bool, true, sym, ◌∙◌, subst}
 use Rattle.std.proofs.lemmas.Option.{same_Some}
-use Rattle.verse_base.specs.declared.places.Place.{Place}
 use Rattle.verse_tree.specs.Tree.{Trees, no_trees, more_trees}
 use Rattle.verse_code.specs.declared.codes.Code.{Code}
-use Rattle.verse_code.specs.declared.operations.Op.TheVariants as o
 use Rattle.verse_names_declarations.specs.Names.{Table}
-use Rattle.verse_sorts.specs.Sorts as s
 use Rattle.verse_sorts.specs.Sorts.{Sort, Fits}
 use Rattle.verse_meaning.specs.Programs.{Program}
-use Rattle.verse_meaning.specs.Forms.{place_in}
 use Rattle.verse_meaning.specs.Residuals as form
 use Rattle.verse_meaning.specs.Residuals.{Form}
 use Rattle.verse_meaning.specs.Evaluating.{Callee, alone, of_object, of_value, of_quotient, no_callee, picked, literal_of}
@@ -20,33 +16,28 @@ use Rattle.verse_sound_rules.specs.Forms.{Gives, Takes}
 use Rattle.verse_sound_rules.specs.Fine.{on_callee}
 use Rattle.verse_sound_rules.specs.Programs.{FineFound}
 use Rattle.verse_sorts.specs.Typing.{AllFit, fit_no, fit_so}
-use Rattle.verse_sorts_values.specs.Operands.{never_here}
-use Rattle.verse_verify_kept.specs.Notes.{Notes, parent_of}
-use Rattle.verse_verify_kept.specs.Rules.{Asked}
-use Rattle.lower_code.specs.Pieces as c
+use Rattle.verse_verify_kept.specs.Notes.{Notes}
 use Rattle.lower_code.specs.Pieces.{Maker}
 use Rattle.lower_code.specs.declared.arounds.Around.{Around}
 use Rattle.lower_code.specs.Scopes.{Scope}
 use Rattle.lower_code.specs.Applied as apply
 use Rattle.lower_code.specs.Lowering as lower
 use Rattle.lower_notes.specs.States.{State}
-use Rattle.lower_notes.specs.Stretches as n
 use Rattle.lower_notes.specs.Stretches.{Walk, with_value}
 use Rattle.lower_notes.specs.Applied as walks
 use Rattle.lower_notes.specs.Noting as noting
 use Rattle.lower_notes.specs.Laws.{Beside}
 use Rattle.lower_notes.proofs.Counted.{code_then, walk_then}
 use Rattle.lower_sound.proofs.Counts.{IsAlone, IsOfObject, IsOfQuotient, IsCallee}
-use Rattle.lower_pass_states.proofs.Points.{pt, over}
 use Rattle.lower_pass_states.proofs.Steps.{turned}
 use Rattle.lower_pass_stretches.proofs.Going.{Way, If, itself, Going}
-use Rattle.lower_pass_stretches.proofs.Inside.{Inside, steady_of}
+use Rattle.lower_pass_stretches.proofs.Inside.{Inside}
 use Rattle.lower_pass_forms.proofs.Applied.{noted_found}
 use Rattle.lower_pass_forms.proofs.Calls.{Declared}
-use Rattle.lower_pass_forms.proofs.Finishing.{IsOver, last_goes}
+use Rattle.lower_pass_forms.proofs.Finishing.{IsOver}
 use Rattle.lower_pass_forms.proofs.Operators.{floor_ends, ceiling_ends}
 use Rattle.lower_pass_values.proofs.Members.{item_ends}
-use Rattle.lower_pass_forms.proofs.Callees.{ call_goes, print_goes, modulo_goes, spawn_goes, own_call_goes, own_spawn_goes}
+use Rattle.lower_pass_forms.proofs.Callees.{call_goes, print_goes, modulo_goes, spawn_goes, own_call_goes, own_spawn_goes}
 use Rattle.lower_pass_forms.proofs.Callees.{method_ends, await_ends, signal_ends, spawn_method_ends}
 
 -- by what a callee stands for

@@ -1,5 +1,5 @@
 -- The notes of a fine tree's code pass: one clause a form.
-use Rattle.std.proofs.Common.{◌≡◌, ℕ, zero, suc, ◌+◌, ◌≤◌, List, [], ◌∷◌, ◌++◌, length, Bool, true, false, Option, Some, None, inl, refl, sym, ◌∙◌, subst, ap}
+use Rattle.std.proofs.Common.{◌≡◌, ℕ, suc, ◌+◌, ◌≤◌, List, [], ◌∷◌, ◌++◌, length, Bool, true, false, Option, Some, None, inl, refl, sym, ◌∙◌, subst, ap}
 use Rattle.std.proofs.Common.{arith}
 use Rattle.std.specs.Prelude.{option_map}
 use Rattle.verse_base.specs.declared.places.Place.{Place}
@@ -59,9 +59,9 @@ use Rattle.lower_notes.proofs.Others as others
 use Rattle.lower_pass_states.proofs.Points.{over, gives_is}
 use Rattle.lower_pass_states.proofs.Steps as step
 use Rattle.lower_pass_states.proofs.Steps.{turned}
-use Rattle.lower_pass_stretches.proofs.Begins.{Begins, tree_begins, inner_shape_begins}
-use Rattle.lower_pass_stretches.proofs.Going.{Way, If, itself, Going, Steady, then_goes}
-use Rattle.lower_pass_stretches.proofs.Single.{none_goes, tree_goes, IsValue, lands_goes}
+use Rattle.lower_pass_stretches.proofs.Begins.{tree_begins, inner_shape_begins}
+use Rattle.lower_pass_stretches.proofs.Going.{Way, If, itself, Going, then_goes}
+use Rattle.lower_pass_stretches.proofs.Single.{tree_goes, IsValue, lands_goes}
 use Rattle.lower_pass_stretches.proofs.Inside.{Inside, steady_of}
 use Rattle.lower_pass_forms.proofs.Applied.{noted_found}
 use Rattle.lower_pass_forms.proofs.Calls.{Declared}
@@ -527,7 +527,6 @@ module _ (p : Program) (found : rules.Found) (differ : ℕ → ℕ → Bool) (co
         operators.sleep_goes p found differ code notes declared fine w ts al xs sc z x here (found.sort n) d h.0 h.1
     shapes_pass t.Shape.sleep_forever n pl v u w ts al xs sc z x h here =
         operators.forever_goes p found differ code notes declared fine w ts al xs sc z x here (found.sort n) h.0 h.1
-
     -- ---- operands
 
     -- generators, arms of a `case` and patterns are no forms of their own
@@ -631,22 +630,52 @@ module _ (p : Program) (found : rules.Found) (differ : ℕ → ℕ → Bool) (co
         ClauseParts p found code notes w ts al z list given n xs sc (lower.piece p differ (tree n pl y) sc (enclosed z))
         (noting.walk p found differ (tree n pl y) sc (enclosed z)) (lower.inner_shape p differ y sc (enclosed z))
         (noting.inner_shape p found differ y sc (enclosed z)) (statement_of_shape y pl)
-    clause_parts (t.Shape.definition y b) n pl u w ts al z list given xs sc whole h = (found.sort (number_of b),
-        (λ i e inside. trees_pass b u w (i ∷ ts) (rules.tried al) xs sc (enclosed z) e h.0 inside), h.1, h.2, sorts_read n)
-    clause_parts (t.Shape.typed y wr b) n pl u w ts al z list given xs sc whole h = (found.sort (number_of b),
-        (λ i e inside. trees_pass b (behind_type wr b u) w (i ∷ ts) (rules.tried al) xs sc (enclosed z) e h.0 inside), h.1, h.2, sorts_read n)
-    clause_parts (t.Shape.variable y wr b) n pl u w ts al z list given xs sc whole h = (found.sort (number_of b),
-        (λ i e inside. trees_pass b (behind_type wr b u) w (i ∷ ts) (rules.tried al) xs sc (enclosed z) e h.0 inside), h.1, h.2, sorts_read n)
+    clause_parts (t.Shape.definition y b) n pl u w ts al z list given xs sc whole h = (
+      found.sort (number_of b),
+      (λ i e inside. trees_pass b u w (i ∷ ts) (rules.tried al) xs sc (enclosed z) e h.0 inside),
+      h.1,
+      h.2,
+      sorts_read n,
+    )
+    clause_parts (t.Shape.typed y wr b) n pl u w ts al z list given xs sc whole h = (
+      found.sort (number_of b),
+      (λ i e inside. trees_pass b (behind_type wr b u) w (i ∷ ts) (rules.tried al) xs sc (enclosed z) e h.0 inside),
+      h.1,
+      h.2,
+      sorts_read n,
+    )
+    clause_parts (t.Shape.variable y wr b) n pl u w ts al z list given xs sc whole h = (
+      found.sort (number_of b),
+      (λ i e inside. trees_pass b (behind_type wr b u) w (i ∷ ts) (rules.tried al) xs sc (enclosed z) e h.0 inside),
+      h.1,
+      h.2,
+      sorts_read n,
+    )
     clause_parts (t.Shape.defer b) n pl u w ts al z list given xs sc whole h = h
-    clause_parts (t.Shape.elements y b) n pl u w ts al z list given xs sc whole h = (_, found.sort (number_of b), of_domain,
-        (λ i e inside. trees_pass b u w (i ∷ ts) (rules.tried al) xs sc (enclosed z) e h.0 inside), h.1)
-    clause_parts (t.Shape.entries k y b) n pl u w ts al z list given xs sc whole h = (_, found.sort (number_of b), of_keyed,
-        (λ i e inside. trees_pass b u w (i ∷ ts) (rules.tried al) xs sc (enclosed z) e h.0 inside), h.1)
-    clause_parts (t.Shape.range y b d) n pl u w ts al z list given xs sc whole h = (_, _, of_ends,
-        ends_part p found code notes w ts al z list given xs sc (found.sort (number_of b)) (found.sort (number_of d))
-        (beside.trees p found differ b sc (enclosed z))
-        (λ i e inside. trees_pass b (left b d u) w (i ∷ ts) (rules.tried al) xs sc (enclosed z) e h.0.0 inside)
-        (λ i e inside. trees_pass d (right b d u) w (i ∷ ts) (rules.tried al) xs sc (up (enclosed z)) e h.0.1 inside), h.1)
+    clause_parts (t.Shape.elements y b) n pl u w ts al z list given xs sc whole h = (
+      _,
+      found.sort (number_of b),
+      of_domain,
+      (λ i e inside. trees_pass b u w (i ∷ ts) (rules.tried al) xs sc (enclosed z) e h.0 inside),
+      h.1,
+    )
+    clause_parts (t.Shape.entries k y b) n pl u w ts al z list given xs sc whole h = (
+      _,
+      found.sort (number_of b),
+      of_keyed,
+      (λ i e inside. trees_pass b u w (i ∷ ts) (rules.tried al) xs sc (enclosed z) e h.0 inside),
+      h.1,
+    )
+    clause_parts (t.Shape.range y b d) n pl u w ts al z list given xs sc whole h = (
+      _,
+      _,
+      of_ends,
+      ends_part p found code notes w ts al z list given xs sc (found.sort (number_of b)) (found.sort (number_of d))
+          (beside.trees p found differ b sc (enclosed z))
+          (λ i e inside. trees_pass b (left b d u) w (i ∷ ts) (rules.tried al) xs sc (enclosed z) e h.0.0 inside)
+          (λ i e inside. trees_pass d (right b d u) w (i ∷ ts) (rules.tried al) xs sc (up (enclosed z)) e h.0.1 inside),
+      h.1,
+    )
     clause_parts y n pl u w ts al z list given xs sc whole h = (found.sort n, whole h)
 
     levels_pass : (bs : Trees) → AllOf bs → (w : Way) (ts : List ℕ) (al : Allowed) (z : Around) (list : ℕ) (given : Sort) (xs : Table)
