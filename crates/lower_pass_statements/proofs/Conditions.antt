@@ -1,5 +1,6 @@
 -- Forms with conditions: `if`, `option` and `logic`.
-use Rattle.std.proofs.Common.{◌≡◌, ℕ, suc, ◌+◌, ◌-◌, ◌≤◌, length, drop, List, [], ◌∷◌, ◌++◌, Option, Some, None, true, refl, sym, ◌∙◌, subst, ap, arith}
+use Rattle.std.proofs.Common.{◌≡◌, ℕ, suc, ◌+◌, ◌-◌, ◌≤◌, length, drop, List, [], ◌∷◌, ◌++◌, Option, Some, None, true, refl, sym, ◌∙◌}
+use Rattle.std.proofs.Common.{subst, ap, arith}
 use Rattle.std.specs.Prelude.{option_map, slice_get}
 use Rattle.std.proofs.lemmas.Option.{none-some, same_Some}
 use Rattle.verse_base.specs.declared.places.Place.{Place}
@@ -64,8 +65,8 @@ module _ (code : Code) (notes : Notes) {found : rules.Found} {w : Way} {ts : Lis
   fails_behind (r.in_try e) = r.in_try (open_is ∙ e)
   fails_behind (r.in_function b d f e) = r.in_function (g.arm ∙ b) (g.block ∙ d) (ap (slice_get notes.functions) g.func ∙ f) e
 
-  pub inside_behind : {ys : Table} {sc2 : Scope} → Sees found al.this ys sc2 z.locals → Blank (length sc2) z.locals → length sc ≤ length sc2 →
-      w.size ≤ length z.locals → Inside code notes found w ts al ys sc2 a z
+  pub inside_behind : {ys : Table} {sc2 : Scope} → Sees found al.this ys sc2 z.locals → Blank (length sc2) z.locals →
+      length sc ≤ length sc2 → w.size ≤ length z.locals → Inside code notes found w ts al ys sc2 a z
   inside_behind sees blank longer room = record {
     even = even_is z.tries y.stack y.tries z.stack g.stack g.tries h.even;
     names = names_are ∙ h.names;
@@ -166,8 +167,8 @@ module _ (found : rules.Found) (code : Code) (notes : Notes) (w : Way) (ts : Lis
     after = subst (λ v. After code notes 0 v h.state) y.1.1 h.after;
   }
 
-  with_none : (i : ℕ) (z : State) → Reached found code notes w (i ∷ ts) (rules.tried al) 0 ys sc2 (enclosed a) (option_map (states.tried i) x) z →
-      Tested [] i z
+  with_none : (i : ℕ) (z : State) → Reached found code notes w (i ∷ ts) (rules.tried al) 0 ys sc2 (enclosed a)
+      (option_map (states.tried i) x) z → Tested [] i z
   with_none i z h = let y = try_is i h.before h.is in record {
     before = y.0;
     is = y.1.0;
@@ -195,7 +196,8 @@ module _ (found : rules.Found) (code : Code) (notes : Notes) (w : Way) (ts : Lis
       since = h.after.since;
     }
 
-    pub commits_go : {u : Option State} → If u (Tested qs i) → Going code notes w (i ∷ ts) u (c.one o.Commit) (n.one untried) itself (Held qs)
+    pub commits_go : {u : Option State} → If u (Tested qs i) →
+        Going code notes w (i ∷ ts) u (c.one o.Commit) (n.one untried) itself (Held qs)
     commits_go above = just_goes code notes (c.one o.Commit) (λ s. o.Commit) (λ s. refl)
         (λ z e. let h = above z e in subst (Steady code notes (i ∷ ts)) (sym h.above) (steady_over code notes qs
         (steady_of code notes h.inside)))
@@ -289,7 +291,8 @@ module _ (found : rules.Found) (code : Code) (notes : Notes) (w : Way) (ts : Lis
       all_beside = counted.both beside (counted.both counted.just (counted.both counted.just beside_b))
 
       -- `if` with an `else`
-      pub else_goes : (qd : Sort) {h : Maker} {j : Walk} → Begins j → Fit qd q → Going code notes w ts x h j itself (IsValue code notes qd x) →
+      pub else_goes : (qd : Sort) {h : Maker} {j : Walk} → Begins j → Fit qd q →
+          Going code notes w ts x h j itself (IsValue code notes qd x) →
           Going code notes w ts x (c.either o.Try (code_then f (code_then (c.one o.Drop) (code_then (c.one o.Commit) b))) h)
           (n.either_try (walk_then g (walk_then (n.one (pops 1)) (walk_then (n.one untried) e))) j) (with_value q x) (λ z. Unit {0})
       else_goes qd begins fit_d other = tests_go q qb qd fit all_beside begins within (lands_goes code notes q other
@@ -310,8 +313,9 @@ module _ (found : rules.Found) (code : Code) (notes : Notes) (w : Way) (ts : Lis
     -- a value in the place of those of the conditions
     gives_held : (op : Spot → Op) (b : Maker) → OneItem b op → (qs : List Sort) (h : Change) →
         ((y : State) → h (over qs y) ≡ over (q ∷ []) y) →
-        ((y : State) → Even y → (s : Spot) → Meets code notes (over (q ∷ []) y) (suc s.at) → Asked code notes s.at (pt (over qs y)) (op s)) →
-        (v : Option State) → If v (Held qs) → Going code notes w ts v b (n.one h) itself (Settles code notes ts q x)
+        ((y : State) → Even y → (s : Spot) → Meets code notes (over (q ∷ []) y) (suc s.at) →
+        Asked code notes s.at (pt (over qs y)) (op s)) → (v : Option State) → If v (Held qs) →
+        Going code notes w ts v b (n.one h) itself (Settles code notes ts q x)
     gives_held op b single qs h same asks v held = just_goes code notes b op single
         (λ z e. let k = held z e in subst (Steady code notes ts) (sym k.above) (steady_over code notes qs (steady_of code notes k.inside)))
         (λ z e s room m. let k = held z e in

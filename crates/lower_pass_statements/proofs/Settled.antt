@@ -107,7 +107,8 @@ module _ (found : rules.Found) (code : Code) (notes : Notes) (w : Way) (ts : Lis
       Going code notes w ts u (c.when b (c.one (o.Leave a.defers))) (n.when b (n.leave a.defers)) itself (Settles code notes ts q x)
   leaves_go above true e = so (run_goes above)
     where
-      so : {u : Option State} {Q : State → Type 0} → Going code notes w ts u (c.one (o.Leave a.defers)) (n.one (left_with a.defers)) itself Q →
+      so : {u : Option State} {Q : State → Type 0} →
+          Going code notes w ts u (c.one (o.Leave a.defers)) (n.one (left_with a.defers)) itself Q →
           Going code notes w ts u (c.when true (c.one (o.Leave a.defers))) (n.when true (n.leave a.defers)) itself Q
       so h = record { leaves = h.leaves; exits = h.exits; goes = h.goes }
   leaves_go {u} above false e = record {

@@ -221,8 +221,8 @@ module _ (found : rules.Found) (code : Code) (notes : Notes) (w : Way) (ts : Lis
     }
 
     -- another statement, and what is behind it
-    pub next_goes : {u : Option State} {f h : Maker} {g i : Walk} {R : State → Type 0} (st : Statement) (q r : Sort) (ys : Table) (sc2 : Scope)
-        (a2 : Around) → Beside f g → If u (NextTo k q xs sc a x) →
+    pub next_goes : {u : Option State} {f h : Maker} {g i : Walk} {R : State → Type 0} (st : Statement) (q r : Sort) (ys : Table)
+        (sc2 : Scope) (a2 : Around) → Beside f g → If u (NextTo k q xs sc a x) →
         ((z : Option State) → If z (Inside code notes found w ts al xs sc a) → Going code notes w ts z f g itself
         (NextTo (one_deferred st) r ys sc2 a2 z)) →
         ((v : Option State) → If v (NextTo (deferred_by st k) r ys sc2 a2 x) → Going code notes w ts v h i itself R) →

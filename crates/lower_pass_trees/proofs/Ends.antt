@@ -41,8 +41,8 @@ use Rattle.lower_pass_forms.proofs.Callees.{call_goes, print_goes, modulo_goes, 
 use Rattle.lower_pass_forms.proofs.Callees.{method_ends, await_ends, signal_ends, spawn_method_ends}
 
 -- by what a callee stands for
-pub by_kind : {code : Code} {notes : Notes} {w : Way} {ts : List ℕ} {x : Option State} {k : Option State → Option State} {Q : State → Type 0}
-    (whole : Form) (callee : Callee) {by_none by_object by_value by_quotient : Form → Type 0}
+pub by_kind : {code : Code} {notes : Notes} {w : Way} {ts : List ℕ} {x : Option State} {k : Option State → Option State}
+    {Q : State → Type 0} (whole : Form) (callee : Callee) {by_none by_object by_value by_quotient : Form → Type 0}
     (on_none on_object on_value on_quotient : Form → Maker) (walk_none walk_object walk_value walk_quotient : Form → Walk) →
     IsCallee whole callee → on_callee callee by_none by_object by_value by_quotient →
     ((f : Form) → IsAlone f → by_none f → Going code notes w ts x (on_none f) (walk_none f) k Q) →
@@ -59,11 +59,12 @@ by_kind whole (of_quotient f) g0 g1 g2 g3 w0 w1 w2 w3 i h a b d e = e f i h
 by_kind whole no_callee g0 g1 g2 g3 w0 w1 w2 w3 i h a b d e = elim h [ ]
 
 -- what is returned fits the result
-pub returning_fits : (p : Program) (f : rules.Found) (al : Allowed) (xs : Table) {qa q r : Sort} → Gives p f al xs form.returning (qa ∷ []) q →
-    al.result ≡ Some r → Fits f.up qa r
+pub returning_fits : (p : Program) (f : rules.Found) (al : Allowed) (xs : Table) {qa q r : Sort} →
+    Gives p f al xs form.returning (qa ∷ []) q → al.result ≡ Some r → Fits f.up qa r
 returning_fits p f al xs {qa} {q} {r} g is = by_taking g.operands g.takes
   where
-    by_taking : {taken : List Sort} {given : Sort} → AllFit f.up (qa ∷ []) taken → Takes p f al xs form.returning taken given → Fits f.up qa r
+    by_taking : {taken : List Sort} {given : Sort} → AllFit f.up (qa ∷ []) taken → Takes p f al xs form.returning taken given →
+        Fits f.up qa r
     by_taking (fit_so h fit_no) (takes.takes_result e) = subst (Fits f.up qa) (same_Some _ r (sym e ∙ is)) h
     by_taking h (takes.takes_never k) = elim k [ ]
 
@@ -114,14 +115,16 @@ module _ (p : Program) (found : rules.Found) (differ : ℕ → ℕ → Bool) (co
       Gives p F al xs f (qa ∷ []) q →
       Going code notes w ts u (apply.finish f 0 true) (walks.finish f 0 true) (with_value q x) (λ z. Unit {0})
   pick_ends {u} qa q above f rest same e = subst
-      (λ f. Gives p F al xs f (qa ∷ []) q → Going code notes w ts u (apply.finish f 0 true) (walks.finish f 0 true) (with_value q x) (λ z. Unit {0}))
-      (sym same) (by_picked rest) e
+      (λ f. Gives p F al xs f (qa ∷ []) q → Going code notes w ts u (apply.finish f 0 true) (walks.finish f 0 true) (with_value q x)
+      (λ z. Unit {0})) (sym same) (by_picked rest) e
     where
       by_picked : (rest : Trees) → Gives p F al xs (picked rest) (qa ∷ []) q →
           Going code notes w ts u (apply.finish (picked rest) 0 true) (walks.finish (picked rest) 0 true) (with_value q x) (λ z. Unit {0})
       by_picked no_trees e = item_ends p found differ code notes declared fine w ts al xs sc a x here qa q above None e
-      by_picked (more_trees b no_trees) e = item_ends p found differ code notes declared fine w ts al xs sc a x here qa q above (literal_of b) e
-      by_picked (more_trees b (more_trees d rest)) e = item_ends p found differ code notes declared fine w ts al xs sc a x here qa q above None e
+      by_picked (more_trees b no_trees) e = item_ends p found differ code notes declared fine w ts al xs sc a x here qa q above
+          (literal_of b) e
+      by_picked (more_trees b (more_trees d rest)) e =
+          item_ends p found differ code notes declared fine w ts al xs sc a x here qa q above None e
 
   -- Floor and Ceil
   pub quotient_ends : {u : Option State} (qa qb q : Sort) → If u (IsOver code notes (qb ∷ qa ∷ []) x) → (f : Form) → IsOfQuotient f →

@@ -1,9 +1,11 @@
 -- The notes of a fine tree's code pass: one clause a form.
-use Rattle.std.proofs.Common.{◌≡◌, ℕ, suc, ◌+◌, ◌≤◌, List, [], ◌∷◌, ◌++◌, length, Bool, true, false, Option, Some, None, inl, refl, sym, ◌∙◌, subst, ap}
+use Rattle.std.proofs.Common.{◌≡◌, ℕ, suc, ◌+◌, ◌≤◌, List, [], ◌∷◌, ◌++◌, length, Bool, true, false, Option, Some, None, inl, refl, sym}
+use Rattle.std.proofs.Common.{◌∙◌, subst, ap}
 use Rattle.std.proofs.Common.{arith}
 use Rattle.std.specs.Prelude.{option_map}
 use Rattle.verse_base.specs.declared.places.Place.{Place}
-use Rattle.verse_tree.specs.Tree.{Written, Tree, tree, Shape, Trees, no_trees, more_trees, Holes, no_holes, more_holes, Givens, no_givens, more_givens}
+use Rattle.verse_tree.specs.Tree.{Written, Tree, tree, Shape, Trees, no_trees, more_trees, Holes, no_holes, more_holes, Givens, no_givens}
+use Rattle.verse_tree.specs.Tree.{more_givens}
 use Rattle.verse_tree.specs.Tree as t
 use Rattle.verse_tree.specs.PostOrder.{post_order, parts, trees_order, holes_order, pairs_order, givens_order, written_order}
 use Rattle.verse_tree.specs.declared.exprs.Operator.TheVariants as op
@@ -25,7 +27,8 @@ use Rattle.verse_sound_rules.specs.Forms.{Gives}
 use Rattle.verse_sound_rules.specs.Fine.{Fine, FineShape, FineAll, FineInner, FineInnerOf, FineObject, FineTrees, FineQuotient, FineSpawned}
 use Rattle.verse_sound_rules.specs.Fine.{FineHoles, FinePairs, FineGivens, FineTarget, FineEach, FineArms, FineClauses, Several, Settled}
 use Rattle.verse_sound_rules.specs.Fine.{Reaches, PairsFit, given_sorts, Generates}
-use Rattle.verse_sound_rules.specs.Fine.{sorts_at, last_sort, object_sort, inner_sort, inner_sort_of, seen_behind, seen_after, stated_behind, on_statement}
+use Rattle.verse_sound_rules.specs.Fine.{sorts_at, last_sort, object_sort, inner_sort, inner_sort_of, seen_behind, seen_after}
+use Rattle.verse_sound_rules.specs.Fine.{stated_behind, on_statement}
 use Rattle.verse_sound_rules.specs.Fine.{Defines}
 use Rattle.verse_sound_rules.specs.Programs.{FineFound}
 use Rattle.verse_verify_kept.specs.Notes.{Notes, parent_of}
@@ -38,7 +41,8 @@ use Rattle.lower_code.specs.Applied.{started}
 use Rattle.lower_code.specs.Applied as apply
 use Rattle.lower_code.specs.Scopes.{Scope, hidden}
 use Rattle.lower_code.specs.Lowering as lower
-use Rattle.lower_code.specs.Lowering.{how_many, scope_stated, scope_behind, around_stated, any_defer, form_fits, with_binder, target_operands}
+use Rattle.lower_code.specs.Lowering.{how_many, scope_stated, scope_behind, around_stated, any_defer, form_fits, with_binder}
+use Rattle.lower_code.specs.Lowering.{target_operands}
 use Rattle.lower_code.specs.Lowering.{is_text, one_if, arm_spots}
 use Rattle.lower_simulation_runs.specs.Programs.{NodeStands, ArmsStand}
 use Rattle.lower_bounds.proofs.Arms.{arms_many}
@@ -71,7 +75,8 @@ use Rattle.lower_pass_forms.proofs.Operators.{one_then, two_then}
 use Rattle.lower_pass_blocks.proofs.Ways.{returns_go, breaks_go}
 use Rattle.lower_pass_blocks.proofs.Attempted.{negation_goes, or_goes}
 use Rattle.lower_pass_blocks.proofs.Stated.{Next, weaker, plain_goes}
-use Rattle.lower_pass_statements.proofs.Turns.{one_deferred, deferred_by, deferred_in, around_behind, behind_defers, behind_base, stated_defers, none_deferred, none_around}
+use Rattle.lower_pass_statements.proofs.Turns.{one_deferred, deferred_by, deferred_in, around_behind, behind_defers, behind_base}
+use Rattle.lower_pass_statements.proofs.Turns.{stated_defers, none_deferred, none_around}
 use Rattle.lower_pass_statements.proofs.Turns.{conditions_none, no_defer, first_none, Parts, states_go, next_goes, no_more}
 use Rattle.lower_pass_statements.proofs.Settled.{Settles, settled_lands, value_settles, leaves_go, none_leaves}
 use Rattle.lower_pass_statements.proofs.Conditions.{else_goes, alone_goes, option_goes, logic_goes}
@@ -83,7 +88,8 @@ use Rattle.lower_pass_loops.proofs.Fors.{for_goes}
 use Rattle.lower_pass_arms.proofs.Branching.{branch_goes}
 use Rattle.lower_pass_arms.proofs.Grouping.{Arming, no_arms, task_goes, sync_goes, race_goes, each_in}
 use Rattle.lower_pass_arms.proofs.Choosing.{Chooses, arm_chooses, case_goes}
-use Rattle.lower_pass_values.proofs.Operands.{value_over, value_here, value_lands, no_operand_goes, operand_goes, wide_operand_goes, pair_goes}
+use Rattle.lower_pass_values.proofs.Operands.{value_over, value_here, value_lands, no_operand_goes, operand_goes, wide_operand_goes}
+use Rattle.lower_pass_values.proofs.Operands.{pair_goes}
 use Rattle.lower_pass_values.proofs.Operands.{mapping_goes, map_fits, noted_pairs}
 use Rattle.lower_pass_values.proofs.Indices.{noted_indices, IndicesFit, indices_fit, index_goes}
 use Rattle.lower_pass_values.proofs.Targets.{TargetOf, target_name, target_member, target_index}
@@ -178,8 +184,8 @@ module _ (p : Program) (found : rules.Found) (differ : ℕ → ℕ → Bool) (co
 
   deferred_count : (b : Tree) (bs : Trees) (z : Around) → (around_behind p differ (more_trees b bs) z).defers ≡
       deferred_in (one_deferred (statement_of b)) bs + z.defers
-  deferred_count b bs z = count _ _ _ _ _ (behind_defers p differ bs (around_stated p differ (statement_of b) z) (one_deferred (statement_of b)))
-      (stated_defers p differ (statement_of b) z)
+  deferred_count b bs z = count _ _ _ _ _ (behind_defers p differ bs (around_stated p differ (statement_of b) z)
+      (one_deferred (statement_of b))) (stated_defers p differ (statement_of b) z)
     where
       count : (x k d e a : ℕ) → x + k ≡ d + e → e ≡ k + a → x ≡ d + a
       count x k d e a h g = omega (arith, h, g)
@@ -228,7 +234,8 @@ module _ (p : Program) (found : rules.Found) (differ : ℕ → ℕ → Bool) (co
 
   -- ---- what is done with parts
 
-  module _ (w : Way) (ts : List ℕ) (al : Allowed) (xs : Table) (sc : Scope) (z : Around) (x : Option State) (here : Here w ts al xs sc z x) where
+  module _ (w : Way) (ts : List ℕ) (al : Allowed) (xs : Table) (sc : Scope) (z : Around) (x : Option State)
+      (here : Here w ts al xs sc z x) where
     -- what is shown of a part
     abbrev PartGoes : Tree → Around → Option State → Type 0
     PartGoes b a e = Value w ts e (lower.piece p differ b sc a) (noting.walk p found differ b sc a) (found.sort (number_of b))
@@ -241,12 +248,12 @@ module _ (p : Program) (found : rules.Found) (differ : ℕ → ℕ → Bool) (co
 
     two_operands : (b d : Tree) → PartGoes b z x → ((e : Option State) → Here w ts al xs sc (up z) e → PartGoes d (up z) e) →
         (q : Sort) {f : Maker} {g : Walk} →
-        ((e : Option State) → If e (IsOver code notes (found.sort (number_of d) ∷ found.sort (number_of b) ∷ []) x) → FormOf w ts x e f g q) →
-        FormGoes w ts x (code_then (lower.piece p differ b sc z) (code_then (lower.piece p differ d sc (up z)) f))
+        ((e : Option State) → If e (IsOver code notes (found.sort (number_of d) ∷ found.sort (number_of b) ∷ []) x) →
+        FormOf w ts x e f g q) → FormGoes w ts x (code_then (lower.piece p differ b sc z) (code_then (lower.piece p differ d sc (up z)) f))
         (walk_then (noting.walk p found differ b sc z) (walk_then (noting.walk p found differ d sc (up z)) g)) q
     two_operands b d first second q rest = two_then p found differ code notes declared fine w ts al xs sc z x here
-        (found.sort (number_of b)) (found.sort (number_of d)) q (beside.trees p found differ b sc z) (beside.trees p found differ d sc (up z))
-        first second rest
+        (found.sort (number_of b)) (found.sort (number_of d)) q (beside.trees p found differ b sc z)
+        (beside.trees p found differ d sc (up z)) first second rest
 
     -- what is shown of operands in turn
     abbrev ArgsGo : Trees → Around → Type 0
@@ -254,9 +261,11 @@ module _ (p : Program) (found : rules.Found) (differ : ℕ → ℕ → Bool) (co
         Going code notes w ts e (lower.args p differ bs sc a) (noting.args p found differ bs sc a) itself
         (IsOver code notes (turned (sorts_at p F bs) qs) x)
 
-    named_call : (bs : Trees) (n : ℕ) (f : Form) → IsAlone f → ArgsGo bs (started f z) → Gives p F al xs f (sorts_at p F bs) (found.sort n) →
-        FormGoes w ts x (code_then (apply.start f sc) (code_then (lower.args p differ bs sc (started f z)) (apply.finish f (how_many bs)
-        (form_fits p differ f (how_many bs) sc)))) (walk_then (walks.start f sc) (walk_then (noting.args p found differ bs sc (started f z))
+    named_call : (bs : Trees) (n : ℕ) (f : Form) → IsAlone f → ArgsGo bs (started f z) →
+        Gives p F al xs f (sorts_at p F bs) (found.sort n) →
+        FormGoes w ts x (code_then (apply.start f sc)
+        (code_then (lower.args p differ bs sc (started f z)) (apply.finish f (how_many bs) (form_fits p differ f (how_many bs) sc))))
+        (walk_then (walks.start f sc) (walk_then (noting.args p found differ bs sc (started f z))
         (walks.finish f (how_many bs) (form_fits p differ f (how_many bs) sc)))) (found.sort n)
     named_call bs n f i run k = ends.alone_goes p found differ code notes declared fine w ts al xs sc z x here
         (found.sort n) (how_many bs) (sorts_at p F bs) (sym (sorts_many p F bs)) (beside.operands p found differ bs sc (started f z)) f i
@@ -384,9 +393,9 @@ module _ (p : Program) (found : rules.Found) (differ : ℕ → ℕ → Bool) (co
         let list = h.2 in
         for_goes F code notes w ts al xs sc z x here (found.sort n) list h.3 pl
         (λ m. beside.clauses_of p found differ bs (hidden ∷ sc) (enclosed z) (λ e. body_beside b e z m (length sc)))
-        (λ m. levels_pass bs (conditions bs b u) w ts al z (length sc) (found.sort n) xs (hidden ∷ sc) h.0 (λ e. body_beside b e z m (length sc))
-        (λ e. body_goes F code notes w ts al z (length sc) (found.sort n) (seen_after bs xs) e list (found.sort (number_of b)) h.3 h.4
-        (beside.trees p found differ b e z)
+        (λ m. levels_pass bs (conditions bs b u) w ts al z (length sc) (found.sort n) xs (hidden ∷ sc) h.0
+        (λ e. body_beside b e z m (length sc)) (λ e. body_goes F code notes w ts al z (length sc) (found.sort n) (seen_after bs xs) e list
+        (found.sort (number_of b)) h.3 h.4 (beside.trees p found differ b e z)
         (λ y inside. trees_pass b (behind_all bs b u) w ts al (seen_after bs xs) e z y h.1 inside) m))
     -- operators
     shapes_pass (t.Shape.chained op.Div b d) n pl v u w ts al xs sc z x h here = elim h [ ]
@@ -420,12 +429,12 @@ module _ (p : Program) (found : rules.Found) (differ : ℕ → ℕ → Bool) (co
         (found.sort (number_of d)) (found.sort n) i y h.2)
     shapes_pass (t.Shape.minus b) n pl v u w ts al xs sc z x h here =
         one_operand w ts al xs sc z x here b (trees_pass b u w ts al xs sc z x h.0 here) (found.sort n)
-        (λ e i. operators.minus_ends p found differ code notes declared fine w ts al xs sc z x here (found.sort (number_of b)) (found.sort n)
-        i pl h.1)
+        (λ e i. operators.minus_ends p found differ code notes declared fine w ts al xs sc z x here (found.sort (number_of b))
+        (found.sort n) i pl h.1)
     shapes_pass (t.Shape.query b) n pl v u w ts al xs sc z x h here =
         one_operand w ts al xs sc z x here b (trees_pass b u w ts al xs sc z x h.0 here) (found.sort n)
-        (λ e i. operators.query_ends p found differ code notes declared fine w ts al xs sc z x here (found.sort (number_of b)) (found.sort n)
-        i h.1)
+        (λ e i. operators.query_ends p found differ code notes declared fine w ts al xs sc z x here (found.sort (number_of b))
+        (found.sort n) i h.1)
     -- members, calls, indices
     shapes_pass (t.Shape.member b y) n pl v u w ts al xs sc z x h here =
         member_goes p found differ code notes declared fine w ts al xs sc z x here (found.sort n) (enum_member p b y) h
@@ -567,8 +576,8 @@ module _ (p : Program) (found : rules.Found) (differ : ℕ → ℕ → Bool) (co
     pairs_pass (t.Pairs.more_pairs b d ps) u w ts al xs sc z x k q h f e qs here above =
         let v = each_first (NodeStands p) (post_order b ++ post_order d) (pairs_order ps) u in
         pair_goes F code notes w ts al xs sc x z qs here above (found.sort (number_of b)) k (found.sort (number_of d)) f.0
-        (beside.trees p found differ b sc z) (beside.trees p found differ d sc (up z)) (trees_pass b (left b d v) w ts al xs sc z e h.0 here)
-        (λ y i. trees_pass d (right b d v) w ts al xs sc (up z) y h.1 i)
+        (beside.trees p found differ b sc z) (beside.trees p found differ d sc (up z))
+        (trees_pass b (left b d v) w ts al xs sc z e h.0 here) (λ y i. trees_pass d (right b d v) w ts al xs sc (up z) y h.1 i)
         (λ y i j. pairs_pass ps (each_rest (NodeStands p) (post_order b ++ post_order d) (pairs_order ps) u) w ts al xs sc (up (up z)) x k q
         h.2 f.2 y (found.sort (number_of d) ∷ k ∷ qs) i j)
 
@@ -757,8 +766,8 @@ module _ (p : Program) (found : rules.Found) (differ : ℕ → ℕ → Bool) (co
     spawned_passes (tree m pl (t.Shape.call b bs)) u w ts al xs sc z x here n h =
         let v = inside (NodeStands p) m pl (t.Shape.call b bs) u in
         let none = form.picking None in
-        by_kind none (spawned_callee (callee_of p b none pl)) _ _ _ _ _ _ _ _ (spawned_is none (callee_of p b none pl) (callee_is p b none pl)) h
-        (λ f i k. named_call w ts al xs sc z x here bs n f i
+        by_kind none (spawned_callee (callee_of p b none pl)) _ _ _ _ _ _ _ _
+        (spawned_is none (callee_of p b none pl) (callee_is p b none pl)) h (λ f i k. named_call w ts al xs sc z x here bs n f i
         (λ e qs g j. args_pass bs (rest_trees b bs v) w ts al xs sc (started f z) x k.0 e qs g j) k.1)
         (λ f i k. member_call w ts al xs sc z x here b bs n f i (object_passes b (first_tree b bs v) w ts al xs sc z x k.0 here)
         (λ e qs g j. args_pass bs (rest_trees b bs v) w ts al xs sc (up z) x k.1 e qs g j) k.2)

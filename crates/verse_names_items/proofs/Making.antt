@@ -1,5 +1,6 @@
 -- The fields of a class, made of those of its parent.
-use Rattle.std.proofs.Common.{◌≡◌, ℕ, zero, suc, ◌<◌, Bool, true, false, nat_eq, List, [], ◌∷◌, ◌++◌, length, map, Option, refl, ap, ◌∙◌, sym}
+use Rattle.std.proofs.Common.{◌≡◌, ℕ, zero, suc, ◌<◌, Bool, true, false, nat_eq, List, [], ◌∷◌, ◌++◌, length, map, Option, refl, ap, ◌∙◌}
+use Rattle.std.proofs.Common.{sym}
 use Rattle.std.proofs.Common.{subst, arith}
 use Rattle.std.specs.Prelude.{Some, None, slice_get, slice_set}
 use Rattle.verse_tree.specs.declared.tables.FieldInfo.{FieldInfo}
@@ -57,7 +58,12 @@ module _ (k : Known) where
     depth = d.depth;
     descends = t.descends;
     told = λ n h.
-        f.told n (omega (arith, once k.outline (up e (high_ends k.outline p f.depth f.descends).1) (high_ends k.outline c d.depth t.descends).1, h)) ∙
+        f.told n (omega (
+          arith,
+          once k.outline (up e (high_ends k.outline p f.depth f.descends).1)
+              (high_ends k.outline c d.depth t.descends).1,
+          h,
+        )) ∙
         ap (λ o. fields_of k.index.types k.notes (on_class o (line k.outline n))) (sym e);
   }
 

@@ -12,14 +12,16 @@ use Rattle.verse_names_items.specs.Tables.{fields_of}
 pub record FieldsTold (k : Known) (c : ℕ) (fs : List FieldInfo) : Type 0 where
   pub depth : ℕ
   pub descends : Descends k.outline depth c
-  pub told : (n : ℕ) → depth < n → map field_of fs ≡ fields_of k.index.types k.notes (line k.outline n c)
+  pub told : (n : ℕ) → depth < n →
+      map field_of fs ≡ fields_of k.index.types k.notes (line k.outline n c)
 
 -- the fields are those of all classes above it
 pub record FieldsAbove (k : Known) (c : ℕ) (fs : List FieldInfo) : Type 0 where
   pub depth : ℕ
   pub descends : Descends k.outline depth c
   pub told : (n : ℕ) → depth < suc n →
-      map field_of fs ≡ fields_of k.index.types k.notes (on_class (parent_of k.outline c) (line k.outline n))
+      map field_of fs ≡ fields_of k.index.types k.notes
+      (on_class (parent_of k.outline c) (line k.outline n))
 
 abbrev pub AreMade : Known → List (Option (List FieldInfo)) → Type 0
 AreMade k ms = (c : ℕ) (fs : List FieldInfo) → slice_get ms c ≡ Some (Some fs) → FieldsTold k c fs

@@ -61,8 +61,8 @@ module _ (c : ℕ) (x : Bytes) where
           or_method (look x t) c (shifted i (cond b (Some 0) (one_further (place x es))))
       by true q =
           let same : x ≡ e.0 = (bytes_eq-Decides x e.0).0 q in
-          subst (λ y. or_method (look x (keep y (ref.Method c i) t)) c (shifted (i + 1) (place x es)) ≡ or_method (look x t) c (Some (i + 0)))
-          same (kept_same (look x t) i t refl (shifted (i + 1) (place x es)))
+          subst (λ y. or_method (look x (keep y (ref.Method c i) t)) c (shifted (i + 1) (place x es)) ≡
+          or_method (look x t) c (Some (i + 0))) same (kept_same (look x t) i t refl (shifted (i + 1) (place x es)))
       by false q = ap (λ o. or_method o c (shifted (i + 1) (place x es))) (kept_other e.0 (look e.0 t) (ref.Method c i) t q) ∙
           ap (or_method (look x t) c) (further i (place x es))
 
