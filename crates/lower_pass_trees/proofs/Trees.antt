@@ -14,7 +14,7 @@ use Rattle.verse_code.specs.declared.operations.Op.TheVariants as o
 use Rattle.verse_names_declarations.specs.Names.{Table}
 use Rattle.verse_sorts.specs.Sorts as s
 use Rattle.verse_sorts.specs.Sorts.{Sort, Fits, to_any}
-use Rattle.verse_sorts.proofs.Fitting.{fits_on, fits_itself}
+use Rattle.verse_sorts.proofs.Fitting.{fits_on}
 use Rattle.verse_meaning.specs.Programs.{Program, ref_at, fields_of, pieces}
 use Rattle.verse_meaning.specs.Residuals as form
 use Rattle.verse_meaning.specs.Residuals.{Form, a_constant, a_variable}
@@ -23,10 +23,9 @@ use Rattle.verse_meaning.specs.Evaluating.{Statement, statement_of, statement_of
 use Rattle.verse_meaning.specs.Evaluating.{enum_member, class_ref, base_of, member_form, number_of}
 use Rattle.verse_sound_rules.specs.Found as rules
 use Rattle.verse_sound_rules.specs.Found.{Allowed}
-use Rattle.verse_sound_rules.specs.Forms.{Gives}
 use Rattle.verse_sound_rules.specs.Fine.{Fine, FineShape, FineAll, FineInner, FineInnerOf, FineObject, FineTrees, FineQuotient, FineSpawned}
 use Rattle.verse_sound_rules.specs.Fine.{FineHoles, FinePairs, FineGivens, FineTarget, FineEach, FineArms, FineClauses, Several, Settled}
-use Rattle.verse_sound_rules.specs.Fine.{Reaches, PairsFit, given_sorts, Generates}
+use Rattle.verse_sound_rules.specs.Fine.{PairsFit, given_sorts, Generates}
 use Rattle.verse_sound_rules.specs.Fine.{sorts_at, last_sort, object_sort, inner_sort, inner_sort_of, seen_behind, seen_after}
 use Rattle.verse_sound_rules.specs.Fine.{stated_behind, on_statement}
 use Rattle.verse_sound_rules.specs.Fine.{Defines}
@@ -47,7 +46,7 @@ use Rattle.lower_code.specs.Lowering.{is_text, one_if, arm_spots}
 use Rattle.lower_simulation_runs.specs.Programs.{NodeStands, ArmsStand}
 use Rattle.lower_bounds.proofs.Arms.{arms_many}
 use Rattle.lower_bounds.proofs.Lists.{Each, each_first, each_rest, node, own, inside}
-use Rattle.lower_sound.proofs.Counts.{IsAlone, IsOfObject, IsOfQuotient, sorts_many, gives_told, callee_is, spawned_is}
+use Rattle.lower_sound.proofs.Counts.{IsOfQuotient, sorts_many, gives_told, callee_is, spawned_is}
 use Rattle.lower_notes.specs.States as states
 use Rattle.lower_notes.specs.States.{State, gives}
 use Rattle.lower_notes.specs.Stretches as n
@@ -60,8 +59,7 @@ use Rattle.lower_notes.proofs.Counted as counted
 use Rattle.lower_notes.proofs.Counted.{code_then, walk_then}
 use Rattle.lower_notes.proofs.Forms as beside
 use Rattle.lower_notes.proofs.Others as others
-use Rattle.lower_pass_states.proofs.Points.{over, gives_is}
-use Rattle.lower_pass_states.proofs.Steps as step
+use Rattle.lower_pass_states.proofs.Points.{over}
 use Rattle.lower_pass_states.proofs.Steps.{turned}
 use Rattle.lower_pass_stretches.proofs.Begins.{tree_begins, inner_shape_begins}
 use Rattle.lower_pass_stretches.proofs.Going.{Way, If, itself, Going, then_goes}
@@ -69,7 +67,7 @@ use Rattle.lower_pass_stretches.proofs.Single.{tree_goes, IsValue, lands_goes}
 use Rattle.lower_pass_stretches.proofs.Inside.{Inside, steady_of}
 use Rattle.lower_pass_forms.proofs.Applied.{noted_found}
 use Rattle.lower_pass_forms.proofs.Calls.{Declared}
-use Rattle.lower_pass_forms.proofs.Finishing.{IsOver, over_itself, step_goes}
+use Rattle.lower_pass_forms.proofs.Finishing.{IsOver, over_itself}
 use Rattle.lower_pass_forms.proofs.Operators as operators
 use Rattle.lower_pass_forms.proofs.Operators.{one_then, two_then}
 use Rattle.lower_pass_blocks.proofs.Ways.{returns_go, breaks_go}
@@ -91,14 +89,14 @@ use Rattle.lower_pass_arms.proofs.Choosing.{Chooses, arm_chooses, case_goes}
 use Rattle.lower_pass_values.proofs.Operands.{value_over, value_here, value_lands, no_operand_goes, operand_goes, wide_operand_goes}
 use Rattle.lower_pass_values.proofs.Operands.{pair_goes}
 use Rattle.lower_pass_values.proofs.Operands.{mapping_goes, map_fits, noted_pairs}
-use Rattle.lower_pass_values.proofs.Indices.{noted_indices, IndicesFit, indices_fit, index_goes}
+use Rattle.lower_pass_values.proofs.Indices.{noted_indices, IndicesFit, indices_fit}
 use Rattle.lower_pass_values.proofs.Targets.{TargetOf, target_name, target_member, target_index}
 use Rattle.lower_pass_values.proofs.Assigned.{assignment_goes, index_fails}
 use Rattle.lower_pass_values.proofs.Holes.{noted_holes, with_text, hole_goes, holes_goes}
 use Rattle.lower_pass_values.proofs.Instances.{Given, Gave, none_given, no_given_goes, given_goes, instance_goes, IsClass, HaveDefaults}
 use Rattle.lower_pass_values.proofs.Members.{member_goes, member_ends}
-use Rattle.lower_pass_trees.proofs.Ends as ends
-use Rattle.lower_pass_trees.proofs.Ends.{by_kind, object_ends, pick_ends, quotient_ends, returning_fits}
+use Rattle.lower_pass_trees.proofs.Parts as part
+use Rattle.lower_pass_trees.proofs.Ends.{by_kind, pick_ends, quotient_ends, returning_fits}
 
 module _ (p : Program) (found : rules.Found) (differ : ℕ → ℕ → Bool) (code : Code) (notes : Notes)
     (declared : Declared p found code notes) (fine : FineFound p (noted_found notes found))
@@ -232,85 +230,6 @@ module _ (p : Program) (found : rules.Found) (differ : ℕ → ℕ → Bool) (co
   value_over_goes w ts al xs sc x q qs above h = weaker F code notes w ts al h
       (λ y k. let r = above k.0 k.1.0 in (r.0, (r.1.0, k.1.1 ∙ ap (over (q ∷ [])) r.1.1)))
 
-  -- ---- what is done with parts
-
-  module _ (w : Way) (ts : List ℕ) (al : Allowed) (xs : Table) (sc : Scope) (z : Around) (x : Option State)
-      (here : Here w ts al xs sc z x) where
-    -- what is shown of a part
-    abbrev PartGoes : Tree → Around → Option State → Type 0
-    PartGoes b a e = Value w ts e (lower.piece p differ b sc a) (noting.walk p found differ b sc a) (found.sort (number_of b))
-
-    one_operand : (b : Tree) → PartGoes b z x → (q : Sort) {f : Maker} {g : Walk} →
-        ((e : Option State) → If e (IsOver code notes (found.sort (number_of b) ∷ []) x) → FormOf w ts x e f g q) →
-        FormGoes w ts x (code_then (lower.piece p differ b sc z) f) (walk_then (noting.walk p found differ b sc z) g) q
-    one_operand b first q rest = one_then p found differ code notes declared fine w ts al xs sc z x here
-        (found.sort (number_of b)) q (beside.trees p found differ b sc z) first rest
-
-    two_operands : (b d : Tree) → PartGoes b z x → ((e : Option State) → Here w ts al xs sc (up z) e → PartGoes d (up z) e) →
-        (q : Sort) {f : Maker} {g : Walk} →
-        ((e : Option State) → If e (IsOver code notes (found.sort (number_of d) ∷ found.sort (number_of b) ∷ []) x) →
-        FormOf w ts x e f g q) → FormGoes w ts x (code_then (lower.piece p differ b sc z) (code_then (lower.piece p differ d sc (up z)) f))
-        (walk_then (noting.walk p found differ b sc z) (walk_then (noting.walk p found differ d sc (up z)) g)) q
-    two_operands b d first second q rest = two_then p found differ code notes declared fine w ts al xs sc z x here
-        (found.sort (number_of b)) (found.sort (number_of d)) q (beside.trees p found differ b sc z)
-        (beside.trees p found differ d sc (up z)) first second rest
-
-    -- what is shown of operands in turn
-    abbrev ArgsGo : Trees → Around → Type 0
-    ArgsGo bs a = (e : Option State) (qs : List Sort) → Here w ts al xs sc a e → If e (IsOver code notes qs x) →
-        Going code notes w ts e (lower.args p differ bs sc a) (noting.args p found differ bs sc a) itself
-        (IsOver code notes (turned (sorts_at p F bs) qs) x)
-
-    named_call : (bs : Trees) (n : ℕ) (f : Form) → IsAlone f → ArgsGo bs (started f z) →
-        Gives p F al xs f (sorts_at p F bs) (found.sort n) →
-        FormGoes w ts x (code_then (apply.start f sc)
-        (code_then (lower.args p differ bs sc (started f z)) (apply.finish f (how_many bs) (form_fits p differ f (how_many bs) sc))))
-        (walk_then (walks.start f sc) (walk_then (noting.args p found differ bs sc (started f z))
-        (walks.finish f (how_many bs) (form_fits p differ f (how_many bs) sc)))) (found.sort n)
-    named_call bs n f i run k = ends.alone_goes p found differ code notes declared fine w ts al xs sc z x here
-        (found.sort n) (how_many bs) (sorts_at p F bs) (sym (sorts_many p F bs)) (beside.operands p found differ bs sc (started f z)) f i
-        run k
-
-    member_call : (b : Tree) (bs : Trees) (n : ℕ) (f : Form) → IsOfObject f →
-        Value w ts x (lower.inner p differ b sc z) (noting.inner p found differ b sc z) (object_sort p F b) → ArgsGo bs (up z) →
-        Gives p F al xs f (object_sort p F b ∷ sorts_at p F bs) (found.sort n) →
-        FormGoes w ts x (code_then (lower.inner p differ b sc z) (code_then (lower.args p differ bs sc (up z))
-        (apply.finish f (how_many bs) true))) (walk_then (noting.inner p found differ b sc z) (walk_then
-        (noting.args p found differ bs sc (up z)) (walks.finish f (how_many bs) true))) (found.sort n)
-    member_call b bs n f i object run g =
-        let qo = object_sort p F b in
-        then_goes code notes (beside.inners p found differ b sc z) object (λ e j.
-        then_goes code notes (beside.operands p found differ bs sc (up z))
-        (run e (qo ∷ []) (value_here F code notes w ts al xs sc x qo z here j)
-        (value_over F code notes w ts al xs sc x qo [] (over_itself code notes) j))
-        (λ d above. object_ends p found differ code notes declared fine w ts al xs sc z x here (found.sort n) (how_many bs)
-        (sorts_at p F bs) (sym (sorts_many p F bs)) (beside.operands p found differ bs sc (up z)) qo above f i g))
-
-    -- an index of a value
-    index_passes : (b : Tree) (bs : Trees) (n : ℕ) (f : Form) → f ≡ form.indexing → PartGoes b z x →
-        (r : Reaches p F (found.sort (number_of b)) (sorts_at p F bs) (found.sort n)) →
-        ((e : Option State) (qs : List Sort) → Here w ts al xs sc (up z) e → If e (IsOver code notes qs x) →
-        Going code notes w ts e (lower.args p differ bs sc (up z)) (noting.indices p found differ (found.sort (number_of b)) bs sc (up z))
-        itself (IsOver code notes (turned (noted_indices (found.sort (number_of b)) (sorts_at p F bs)) qs) x)) →
-        Gives p F al xs f (found.sort (number_of b) ∷ sorts_at p F bs) (found.sort n) →
-        FormGoes w ts x (code_then (lower.piece p differ b sc z) (code_then (lower.args p differ bs sc (up z))
-        (apply.finish f (how_many bs) true))) (walk_then (noting.walk p found differ b sc z) (walk_then
-        (noting.indices p found differ (found.sort (number_of b)) bs sc (up z)) (walks.finish f (how_many bs) true))) (found.sort n)
-    index_passes b bs n f i first r run k =
-        let q = found.sort (number_of b) in
-        subst (λ f. Gives p F al xs f (q ∷ sorts_at p F bs) (found.sort n) → FormGoes w ts x (code_then (lower.piece p differ b sc z)
-        (code_then (lower.args p differ bs sc (up z)) (apply.finish f (how_many bs) true)))
-        (walk_then (noting.walk p found differ b sc z) (walk_then (noting.indices p found differ q bs sc (up z))
-        (walks.finish f (how_many bs) true))) (found.sort n)) (sym i)
-        (λ k. index_goes p found code notes w ts al xs sc z x here q (found.sort n) (sorts_at p F bs) (how_many bs)
-        (sym (sorts_many p F bs)) r k (beside.trees p found differ b sc z) (beside.indices p found differ q bs sc (up z))
-        first (λ e j above. run e (q ∷ []) j above)) k
-
-    unit_passes : Value w ts x (c.one o.Unit) (n.one (gives 0 s.unit)) s.unit
-    unit_passes = step_goes code notes (c.one o.Unit) (λ s. o.Unit) (λ s. refl) []
-        (λ y e. steady_of code notes (here y e)) (over_itself code notes) (s.unit ∷ []) (gives 0 s.unit) (λ y e. gives_is s.unit y)
-        (λ y e k m. step.unit_asked code notes y (here y e).even m (fits_itself (parent_of notes) s.unit))
-
   stated_beside : (b : Tree) (sc : Scope) (z : Around) → Beside
       (lower.stated p differ (statement_of b) sc (lower.piece p differ b sc z) (lower.inner p differ b sc z))
       (noting.stated p found differ (statement_of b) (found.sort (number_of b)) sc (noting.walk p found differ b sc z)
@@ -352,7 +271,7 @@ module _ (p : Program) (found : rules.Found) (differ : ℕ → ℕ → Bool) (co
         then_goes code notes (beside.trees p found differ b sc z) (trees_pass b u w ts al xs sc z x h.0 here)
         (λ v i. returns_go F code notes w ts al xs sc z x here (found.sort (number_of b)) k.0 k.1 (returning_fits p F al xs h.1 k.1) i)
     shapes_pass t.Shape.returned_unit n pl v u w ts al xs sc z x h here =
-        then_goes code notes counted.just (unit_passes w ts al xs sc z x here)
+        then_goes code notes counted.just (part.unit_passes p found differ code notes declared fine w ts al xs sc z x here)
         (λ v i. returns_go F code notes w ts al xs sc z x here s.unit h.0 h.1 h.2 i)
     shapes_pass t.Shape.break_form n pl v u w ts al xs sc z x h here = breaks_go F code notes w ts al xs sc z x here h
     -- failure contexts
@@ -408,56 +327,56 @@ module _ (p : Program) (found : rules.Found) (differ : ℕ → ℕ → Bool) (co
         (λ y k. let r = i y k in subst (Inside code notes F w ts al xs sc z) (sym r.1.1) (here r.0 r.1.0)))
         (λ y k. let r = i k.0 k.1.0 in (r.0, (r.1.0, k.1.1 ∙ ap (over (qd ∷ [])) r.1.1)))))
     shapes_pass (t.Shape.chained op.Add b d) n pl v u w ts al xs sc z x h here =
-        two_operands w ts al xs sc z x here b d (trees_pass b (left b d u) w ts al xs sc z x h.0 here)
+        part.two_operands p found differ code notes declared fine w ts al xs sc z x here b d (trees_pass b (left b d u) w ts al xs sc z x h.0 here)
         (λ e i. trees_pass d (right b d u) w ts al xs sc (up z) e h.1 i) (found.sort n)
         (λ e i. operators.sum_ends p found differ code notes declared fine w ts al xs sc z x here (found.sort (number_of b))
         (found.sort (number_of d)) (found.sort n) i (p.is_array n) pl h.2)
     shapes_pass (t.Shape.chained op.Sub b d) n pl v u w ts al xs sc z x h here =
-        two_operands w ts al xs sc z x here b d (trees_pass b (left b d u) w ts al xs sc z x h.0 here)
+        part.two_operands p found differ code notes declared fine w ts al xs sc z x here b d (trees_pass b (left b d u) w ts al xs sc z x h.0 here)
         (λ e i. trees_pass d (right b d u) w ts al xs sc (up z) e h.1 i) (found.sort n)
         (λ e i. operators.difference_ends p found differ code notes declared fine w ts al xs sc z x here (found.sort (number_of b))
         (found.sort (number_of d)) (found.sort n) i (p.is_array n) pl h.2)
     shapes_pass (t.Shape.chained op.Mul b d) n pl v u w ts al xs sc z x h here =
-        two_operands w ts al xs sc z x here b d (trees_pass b (left b d u) w ts al xs sc z x h.0 here)
+        part.two_operands p found differ code notes declared fine w ts al xs sc z x here b d (trees_pass b (left b d u) w ts al xs sc z x h.0 here)
         (λ e i. trees_pass d (right b d u) w ts al xs sc (up z) e h.1 i) (found.sort n)
         (λ e i. operators.product_ends p found differ code notes declared fine w ts al xs sc z x here (found.sort (number_of b))
         (found.sort (number_of d)) (found.sort n) i (p.is_array n) pl h.2)
     shapes_pass (t.Shape.compared y b d) n pl v u w ts al xs sc z x h here =
-        two_operands w ts al xs sc z x here b d (trees_pass b (left b d u) w ts al xs sc z x h.0 here)
+        part.two_operands p found differ code notes declared fine w ts al xs sc z x here b d (trees_pass b (left b d u) w ts al xs sc z x h.0 here)
         (λ e i. trees_pass d (right b d u) w ts al xs sc (up z) e h.1 i) (found.sort n)
         (λ e i. operators.comparison_ends p found differ code notes declared fine w ts al xs sc z x here (found.sort (number_of b))
         (found.sort (number_of d)) (found.sort n) i y h.2)
     shapes_pass (t.Shape.minus b) n pl v u w ts al xs sc z x h here =
-        one_operand w ts al xs sc z x here b (trees_pass b u w ts al xs sc z x h.0 here) (found.sort n)
+        part.one_operand p found differ code notes declared fine w ts al xs sc z x here b (trees_pass b u w ts al xs sc z x h.0 here) (found.sort n)
         (λ e i. operators.minus_ends p found differ code notes declared fine w ts al xs sc z x here (found.sort (number_of b))
         (found.sort n) i pl h.1)
     shapes_pass (t.Shape.query b) n pl v u w ts al xs sc z x h here =
-        one_operand w ts al xs sc z x here b (trees_pass b u w ts al xs sc z x h.0 here) (found.sort n)
+        part.one_operand p found differ code notes declared fine w ts al xs sc z x here b (trees_pass b u w ts al xs sc z x h.0 here) (found.sort n)
         (λ e i. operators.query_ends p found differ code notes declared fine w ts al xs sc z x here (found.sort (number_of b))
         (found.sort n) i h.1)
     -- members, calls, indices
     shapes_pass (t.Shape.member b y) n pl v u w ts al xs sc z x h here =
         member_goes p found differ code notes declared fine w ts al xs sc z x here (found.sort n) (enum_member p b y) h
-        (λ k. one_operand w ts al xs sc z x here b (trees_pass b u w ts al xs sc z x k.0 here) (found.sort n)
+        (λ k. part.one_operand p found differ code notes declared fine w ts al xs sc z x here b (trees_pass b u w ts al xs sc z x k.0 here) (found.sort n)
         (λ e g. member_ends p found differ code notes declared fine w ts al xs sc z x here (found.sort (number_of b)) (found.sort n) g
         (ref_at p n) y k.1))
     shapes_pass (t.Shape.index b bs) n pl v u w ts al xs sc z x h here =
         by_kind form.indexing (callee_of p b form.indexing pl) _ _ _ _ _ _ _ _ (callee_is p b form.indexing pl) h
-        (λ f i k. named_call w ts al xs sc z x here bs n f i
+        (λ f i k. part.named_call p found differ code notes declared fine w ts al xs sc z x here bs n f i
         (λ e qs g j. args_pass bs (rest_trees b bs u) w ts al xs sc (started f z) x k.0 e qs g j) k.1)
-        (λ f i k. member_call w ts al xs sc z x here b bs n f i (object_passes b (first_tree b bs u) w ts al xs sc z x k.0 here)
+        (λ f i k. part.member_call p found differ code notes declared fine w ts al xs sc z x here b bs n f i (object_passes b (first_tree b bs u) w ts al xs sc z x k.0 here)
         (λ e qs g j. args_pass bs (rest_trees b bs u) w ts al xs sc (up z) x k.1 e qs g j) k.2)
-        (λ f i k. index_passes w ts al xs sc z x here b bs n f i (trees_pass b (first_tree b bs u) w ts al xs sc z x k.0.0 here) k.0.1
+        (λ f i k. part.index_passes p found differ code notes declared fine w ts al xs sc z x here b bs n f i (trees_pass b (first_tree b bs u) w ts al xs sc z x k.0.0 here) k.0.1
         (λ e qs g j. indices_pass (found.sort (number_of b)) bs (rest_trees b bs u) w ts al xs sc (up z) x k.1
         (indices_fit p found code notes k.0.1) e qs g j) k.2)
         (λ f i k. quotient_passes bs (rest_trees b bs u) w ts al xs sc z x here n f i k)
     shapes_pass (t.Shape.call b bs) n pl v u w ts al xs sc z x h here =
         by_kind (picked bs) (callee_of p b (picked bs) pl) _ _ _ _ _ _ _ _ (callee_is p b (picked bs) pl) h
-        (λ f i k. named_call w ts al xs sc z x here bs n f i
+        (λ f i k. part.named_call p found differ code notes declared fine w ts al xs sc z x here bs n f i
         (λ e qs g j. args_pass bs (rest_trees b bs u) w ts al xs sc (started f z) x k.0 e qs g j) k.1)
-        (λ f i k. member_call w ts al xs sc z x here b bs n f i (object_passes b (first_tree b bs u) w ts al xs sc z x k.0 here)
+        (λ f i k. part.member_call p found differ code notes declared fine w ts al xs sc z x here b bs n f i (object_passes b (first_tree b bs u) w ts al xs sc z x k.0 here)
         (λ e qs g j. args_pass bs (rest_trees b bs u) w ts al xs sc (up z) x k.1 e qs g j) k.2)
-        (λ f i k. one_operand w ts al xs sc z x here b (trees_pass b (first_tree b bs u) w ts al xs sc z x k.0 here) (found.sort n)
+        (λ f i k. part.one_operand p found differ code notes declared fine w ts al xs sc z x here b (trees_pass b (first_tree b bs u) w ts al xs sc z x k.0 here) (found.sort n)
         (λ e g. pick_ends p found differ code notes declared fine w ts al xs sc z x here (found.sort (number_of b)) (found.sort n) g f bs i
         k.1))
         (λ f i k. quotient_passes bs (rest_trees b bs u) w ts al xs sc z x here n f i k)
@@ -767,9 +686,9 @@ module _ (p : Program) (found : rules.Found) (differ : ℕ → ℕ → Bool) (co
         let v = inside (NodeStands p) m pl (t.Shape.call b bs) u in
         let none = form.picking None in
         by_kind none (spawned_callee (callee_of p b none pl)) _ _ _ _ _ _ _ _
-        (spawned_is none (callee_of p b none pl) (callee_is p b none pl)) h (λ f i k. named_call w ts al xs sc z x here bs n f i
+        (spawned_is none (callee_of p b none pl) (callee_is p b none pl)) h (λ f i k. part.named_call p found differ code notes declared fine w ts al xs sc z x here bs n f i
         (λ e qs g j. args_pass bs (rest_trees b bs v) w ts al xs sc (started f z) x k.0 e qs g j) k.1)
-        (λ f i k. member_call w ts al xs sc z x here b bs n f i (object_passes b (first_tree b bs v) w ts al xs sc z x k.0 here)
+        (λ f i k. part.member_call p found differ code notes declared fine w ts al xs sc z x here b bs n f i (object_passes b (first_tree b bs v) w ts al xs sc z x k.0 here)
         (λ e qs g j. args_pass bs (rest_trees b bs v) w ts al xs sc (up z) x k.1 e qs g j) k.2)
         (λ f i k. elim k [ ]) (λ f i k. elim k [ ])
     spawned_passes (tree m pl y) u w ts al xs sc z x here n h = elim h [ ]
@@ -839,7 +758,7 @@ module _ (p : Program) (found : rules.Found) (differ : ℕ → ℕ → Bool) (co
         (x : Option State) → FineAll p F true al xs bs → Here w ts al xs sc z x →
         Going code notes w ts x (lower.statements p differ bs sc z) (noting.statements p found differ bs sc z) itself
         (Settles code notes ts (left_sort bs) x)
-    block_passes no_trees u w ts al xs sc z x h here = weaker F code notes w ts al (unit_passes w ts al xs sc z x here)
+    block_passes no_trees u w ts al xs sc z x h here = weaker F code notes w ts al (part.unit_passes p found differ code notes declared fine w ts al xs sc z x here)
         (λ y k. value_settles code notes ts s.unit (λ v e. steady_of code notes (here v e)) y k)
     block_passes (more_trees b bs) u w ts al xs sc z x h here =
         let stated = statement_of b in
@@ -859,7 +778,7 @@ module _ (p : Program) (found : rules.Found) (differ : ℕ → ℕ → Bool) (co
         Going code notes w ts x (lower.statements p differ bs sc z) (noting.statements p found differ bs sc z) itself
         (Next F code notes w ts al 0 (left_sort bs) (seen_after bs xs) (scope_behind bs sc) z x)
     conditions_pass no_trees u w ts al xs sc z x h here = plain_goes F code notes w ts al xs sc z x here s.unit
-        (unit_passes w ts al xs sc z x here)
+        (part.unit_passes p found differ code notes declared fine w ts al xs sc z x here)
     conditions_pass (more_trees b bs) u w ts al xs sc z x h here =
         let stated = statement_of b in
         let z2 = around_stated p differ stated z in
