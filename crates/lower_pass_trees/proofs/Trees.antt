@@ -91,7 +91,7 @@ use Rattle.lower_pass_values.proofs.Operands.{pair_goes}
 use Rattle.lower_pass_values.proofs.Operands.{mapping_goes, map_fits, noted_pairs}
 use Rattle.lower_pass_values.proofs.Indices.{noted_indices, IndicesFit, indices_fit}
 use Rattle.lower_pass_values.proofs.Targets.{TargetOf, target_name, target_member, target_index}
-use Rattle.lower_pass_values.proofs.Assigned.{assignment_goes, index_fails}
+use Rattle.lower_pass_values.proofs.Assigned.{Alike, assignment_goes, index_fails}
 use Rattle.lower_pass_values.proofs.Holes.{noted_holes, with_text, hole_goes, holes_goes}
 use Rattle.lower_pass_values.proofs.Instances.{Given, Gave, none_given, no_given_goes, given_goes, instance_goes, IsClass, HaveDefaults}
 use Rattle.lower_pass_values.proofs.Members.{member_goes, member_ends}
@@ -101,7 +101,7 @@ use Rattle.lower_pass_trees.proofs.Ends.{by_kind, pick_ends, quotient_ends, retu
 module _ (p : Program) (found : rules.Found) (differ : ℕ → ℕ → Bool) (code : Code) (notes : Notes)
     (declared : Declared p found code notes) (fine : FineFound p (noted_found notes found))
     (sorts_read : (m : ℕ) → IsRead (found.sort m)) (keys_read : (m : ℕ) → IsRead (found.key m))
-    (same : (m n : ℕ) → differ m n ≡ false → found.sort m ≡ found.sort n)
+    (same : (m n : ℕ) → differ m n ≡ false → Alike (found.sort m) (found.sort n))
     (classes : (n k : ℕ) → class_ref p (ref_at p n) ≡ Some k → IsClass p found code notes k)
     (defaults : (n k : ℕ) → class_ref p (ref_at p n) ≡ Some k → HaveDefaults p found code notes (fields_of p k)) where
   abbrev F : rules.Found

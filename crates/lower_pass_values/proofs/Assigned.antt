@@ -120,6 +120,10 @@ module _ (code : Code) (notes : Notes) where
 
 -- ---- what is written, in each mode
 
+-- the sort of a place is that of what is written to it, but where one of the two is that of no value
+abbrev pub Alike : Sort → Sort → Type 0
+Alike d q = (q ≡ s.never) ⊎ ((d ≡ s.never) ⊎ (d ≡ q))
+
 module _ (p : Program) (found : rules.Found) (code : Code) (notes : Notes) where
   abbrev F : rules.Found
   F = noted_found notes found
@@ -170,10 +174,15 @@ module _ (p : Program) (found : rules.Found) (code : Code) (notes : Notes) where
   added_gives mode.Mul differs v.writes_product k = k
   added_gives mode.Mul differs (v.writes_never h) k = from_never
 
-  pub place_fits : (m : Assign) (b : Bool) {q d g : Sort} → keeps m b ≡ false → (b ≡ false → d ≡ q) → Stores p F (mode_of m) q d g →
+  pub place_fits : (m : Assign) (b : Bool) {q d g : Sort} → keeps m b ≡ false → (b ≡ false → Alike d q) → Stores p F (mode_of m) q d g →
       (q ≡ s.never) ⊎ Fit d g
   place_fits m b e same stores_nothing = inl refl
-  place_fits assign.Set b {g = g} e same (stores_value taken given f h k) = inr (subst (λ z. Fit z g) (sym (same e)) (set_gives f h k))
+  place_fits assign.Set b {q = q} {d = d} {g = g} e same (stores_value taken given f h k) = by (same e)
+    where
+      by : Alike d q → (q ≡ s.never) ⊎ Fit d g
+      by (inl none) = inl none
+      by (inr (inl none)) = inr (subst (λ z. Fit z g) (sym none) from_never)
+      by (inr (inr i)) = inr (subst (λ z. Fit z g) (sym i) (set_gives f h k))
   place_fits assign.Add b e same (stores_value taken given f h k) = inr (added_gives mode.Add (λ i. cc) h k)
   place_fits assign.Sub b e same (stores_value taken given f h k) = inr (added_gives mode.Sub (λ i. cc) h k)
   place_fits assign.Mul b e same (stores_value taken given f h k) = inr (added_gives mode.Mul (λ i. cc) h k)
@@ -356,7 +365,7 @@ module _ (p : Program) (found : rules.Found) (differ : ℕ → ℕ → Bool) (co
   pub assignment_goes : (m : Assign) (b d : Tree) (i : ℕ) (pl : Place) → FineTarget p H al xs b → Settled p H al xs b →
       Stores p H (mode_of m) (sort_at p H d) (sort_at p H b) (H.sort i) →
       (target_operands b ≢ 0 → (al.fails ≡ true) ⊎ (sort_at p H d ≡ s.never)) →
-      (differ (number_of b) (number_of d) ≡ false → sort_at p H b ≡ sort_at p H d) → IsRead (sort_at p H d) →
+      (differ (number_of b) (number_of d) ≡ false → Alike (sort_at p H b) (sort_at p H d)) → IsRead (sort_at p H d) →
       Beside (target_piece p differ b (base_of p b) sc a) (noting.target_walk p found differ b (base_of p b) sc a) →
       TargetOf p found differ code notes declared fine w ts al xs sc a x b →
       Beside (piece p differ d sc (up (raised (target_operands b) a)))
