@@ -44,11 +44,11 @@ mutual
   same_all_back s.no_sorts = refl
   same_all_back (s.more_sorts a xs) = and_from (same a a) (same_all xs xs) (same_back a) (same_all_back xs)
 
-cond_or : (b x : Bool) → x ≡ true → cond b true x ≡ true
+pub cond_or : (b x : Bool) → x ≡ true → cond b true x ≡ true
 cond_or true x e = refl
 cond_or false x e = e
 
-cond_yes : (b x : Bool) → b ≡ true → cond b true x ≡ true
+pub cond_yes : (b x : Bool) → b ≡ true → cond b true x ≡ true
 cond_yes true x e = refl
 cond_yes false x e = no_both (sym e)
 
