@@ -9,6 +9,6 @@ mod Calls
 mod Tasks
 mod Blocks
 mod Every
-mod Tables
+pub mod Tables
 mod Parsed
 mod Passed
