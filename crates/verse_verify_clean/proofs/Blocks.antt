@@ -1,17 +1,17 @@
 -- Deferred blocks.
-use Rattle.std.proofs.Common.{◌≡◌, ℕ, zero, suc, ◌+◌, ◌≤◌, ◌<◌, length, map, List, [], ◌∷◌, ◌++◌, Option, Some, None, Bool, true, false, cond}
+use Rattle.std.proofs.Common.{◌≡◌, ℕ, suc, ◌+◌, ◌≤◌, length, map, List, [], ◌∷◌, Option, Some, None, true, cond}
 use Rattle.std.proofs.Common.{refl, sym, subst, ap, arith, ◌∙◌}
-use Rattle.std.specs.Prelude.{◌&&◌, not, slice_get}
+use Rattle.std.specs.Prelude.{not, slice_get}
 use Rattle.std.proofs.lemmas.Bool.{and_from}
 use Rattle.verse_code.specs.declared.operations.Op.{Op}
 use Rattle.verse_code.specs.declared.operations.Op.TheVariants as o
 use Rattle.verse_code.specs.declared.codes.Code.{Code}
-use Rattle.verse_meaning_state.specs.Waits.{eqn, ltn}
+use Rattle.verse_meaning_state.specs.Waits.{ltn}
 use Rattle.verse_meaning_state.proofs.Numbers.{eqn_less, ltn_no}
 use Rattle.verse_sorts.specs.Sorts.{Sort}
-use Rattle.verse_verify_kept.specs.Notes.{Open, Point, Notes, names, point_at}
+use Rattle.verse_verify_kept.specs.Notes.{Point, Notes, names, point_at}
 use Rattle.verse_verify_kept.specs.Rules as r
-use Rattle.verse_verify_faults.specs.Spots.{Mark, Spot, Table, spot_at, above, opens, even, cut}
+use Rattle.verse_verify_faults.specs.Spots.{Mark, Spot, Table, spot_at, above, opens, cut}
 use Rattle.verse_verify_faults.specs.Stepping as step
 use Rattle.verse_verify_faults.specs.Stepping.{Made, is, Goes, inner, begins_block, to, spot_locals}
 use Rattle.verse_verify_faults.specs.Faults.{is_none, is_nil, each_holds, tries_of, keeps, try_count}
@@ -19,10 +19,10 @@ use Rattle.verse_verify_faults.proofs.Leading.{notes, point_there, Fitting}
 use Rattle.verse_verify_laws.proofs.Steps.{Fine}
 use Rattle.verse_verify_laws.proofs.Holding.{Spotted, spotted, names_are}
 use Rattle.verse_verify_clean.proofs.Fitting as fitting
-use Rattle.verse_verify_clean.proofs.Leading.{SuitAll, suit_no, suit_so, Suit, test_of, wrote_is, bare, each_is, take_whole}
+use Rattle.verse_verify_clean.proofs.Leading.{SuitAll, suit_no, suit_so, Suit, test_of, wrote_is, each_is}
 use Rattle.verse_verify_clean.proofs.Leading.{numbers_back, number_back, arm_back, marks_back}
 use Rattle.verse_verify_clean.proofs.Steps.{Here, evenly, led}
-use Rattle.verse_verify_clean.proofs.Holding.{EntryAt, entry_at, none_back, nil_back, some_back, no_opens, bare_spot}
+use Rattle.verse_verify_clean.proofs.Holding.{entry_at, nil_back, some_back, no_opens, bare_spot}
 
 module _ (c : Code) (t : Table) (p : Spot) (i : ℕ) (here : Here c t p i) where
   abbrev N : Notes

@@ -1,6 +1,6 @@
 -- Calls, returns and spawns.
-use Rattle.std.proofs.Common.{◌≡◌, ℕ, zero, suc, ◌+◌, length, List, [], ◌∷◌, Option, Some, None, Bool, true, false}
-use Rattle.std.proofs.Common.{refl, sym, subst, ap, arith, ◌∙◌}
+use Rattle.std.proofs.Common.{◌≡◌, ℕ, suc, ◌+◌, length, List, [], ◌∷◌, Option, Some, true, false}
+use Rattle.std.proofs.Common.{refl, sym, subst, arith}
 use Rattle.std.specs.Prelude.{◌&&◌, ◌||◌, not, slice_get}
 use Rattle.std.proofs.lemmas.Bool.{and_from}
 use Rattle.verse_code.specs.declared.operations.Op.{Op}
@@ -8,14 +8,13 @@ use Rattle.verse_code.specs.declared.operations.Op.TheVariants as o
 use Rattle.verse_code.specs.declared.codes.Class.{Class}
 use Rattle.verse_code.specs.declared.codes.Code.{Code}
 use Rattle.verse_meaning_state.specs.Waits.{eqn}
-use Rattle.verse_sorts.specs.Sorts as s
 use Rattle.verse_sorts.specs.Sorts.{Sort}
 use Rattle.verse_verify_kept.specs.Notes.{FuncNote, Point, Notes, parent_of}
 use Rattle.verse_verify_kept.specs.Rules as r
 use Rattle.verse_verify_faults.specs.Spots.{Spot, Table, above, cut}
 use Rattle.verse_verify_faults.specs.Stepping as step
 use Rattle.verse_verify_faults.specs.Stepping.{Stepped}
-use Rattle.verse_verify_faults.specs.Faults.{is_none, is_nil, implies, may_fail, may_wait}
+use Rattle.verse_verify_faults.specs.Faults.{is_none, is_nil, may_fail, may_wait}
 use Rattle.verse_verify_faults.proofs.Cutting.{fit_length}
 use Rattle.verse_verify_faults.proofs.Leading.{notes, Fitting}
 use Rattle.verse_verify_laws.proofs.Steps.{Fine}

@@ -1,27 +1,25 @@
 -- An operation that passes breaks no rule, and so does none.
 use Rattle.std.proofs.Common.{◌≡◌, ℕ, zero, suc, ◌+◌, ◌-◌, ◌≤◌, length, take, List, [], ◌∷◌, Option, Some, None, Bool, true, false}
 use Rattle.std.proofs.Common.{cond, refl, sym, subst, ap, arith, ◌∙◌}
-use Rattle.std.specs.Prelude.{◌&&◌, ◌||◌, nat_lt, slice_get}
-use Rattle.std.proofs.lemmas.Bool.{and_from, or_left, or_right, ltb-true, cond_both}
-use Rattle.std.proofs.lemmas.Option.{none-some, same_Some}
+use Rattle.std.specs.Prelude.{◌||◌, nat_lt, slice_get}
+use Rattle.std.proofs.lemmas.Bool.{and_from, or_right, ltb-true}
+use Rattle.std.proofs.lemmas.Option.{same_Some}
 use Rattle.verse_code.specs.declared.operations.Op.{Op}
 use Rattle.verse_code.specs.declared.operations.Op.TheVariants as o
 use Rattle.verse_code.specs.declared.codes.Func.{Func}
 use Rattle.verse_code.specs.declared.codes.Class.{Class}
 use Rattle.verse_code.specs.declared.codes.Code.{Code}
 use Rattle.verse_code_machine_parents.proofs.Lists.{no_both}
-use Rattle.verse_sorts.specs.Sorts as s
 use Rattle.verse_sorts.specs.Sorts.{Sort}
-use Rattle.verse_verify_kept.specs.Notes.{Point, Notes, point_at, names}
+use Rattle.verse_verify_kept.specs.Notes.{Notes}
 use Rattle.verse_verify_kept.specs.Rules as r
 use Rattle.verse_verify_kept.specs.Rules.{Passes, Asked, asked, no_operand, no_local, AnyNever, first_never, later_never, Sound}
 use Rattle.verse_verify_kept.specs.Rules.{Pops, pops_no, pops_so}
 use Rattle.verse_verify_faults.specs.Fitting.{is_never, any_never}
-use Rattle.verse_verify_faults.specs.Spots.{Mark, Spot, Table, spot_at, room, above, even, cut}
+use Rattle.verse_verify_faults.specs.Spots.{Mark, Spot, Table, spot_at, room, above, cut}
 use Rattle.verse_verify_faults.specs.Stepping as step
-use Rattle.verse_verify_faults.specs.Faults.{by_step, fault_of, fault_in, pops, class_pops, func_pops, lacks_values, stands, tries_of}
-use Rattle.verse_verify_faults.specs.Faults.{all_around, ready}
-use Rattle.verse_verify_faults.proofs.Leading.{notes, point_there}
+use Rattle.verse_verify_faults.specs.Faults.{fault_of, fault_in, pops, class_pops, func_pops, lacks_values, stands}
+use Rattle.verse_verify_faults.proofs.Leading.{notes}
 use Rattle.verse_verify_laws.proofs.Steps.{Fine}
 use Rattle.verse_verify_clean.specs.Laws.{Told}
 use Rattle.verse_verify_clean.proofs.Steps.{Here}

@@ -1,9 +1,8 @@
 -- Sorts that fit pass the tests.
-use Rattle.std.proofs.Common.{◌≡◌, ℕ, zero, suc, ◌≤◌, ◌<◌, length, List, [], ◌∷◌, Option, Some, None, Bool, true, false, cond}
+use Rattle.std.proofs.Common.{◌≡◌, ℕ, zero, suc, ◌≤◌, ◌<◌, length, List, Option, Some, Bool, true, false, cond}
 use Rattle.std.proofs.Common.{refl, sym, subst, arith}
-use Rattle.std.specs.Prelude.{◌&&◌, ◌||◌, slice_get}
-use Rattle.std.proofs.lemmas.Bool.{and_from, or_left, or_right}
-use Rattle.std.proofs.lemmas.Option.{none-some}
+use Rattle.std.specs.Prelude.{slice_get}
+use Rattle.std.proofs.lemmas.Bool.{and_from}
 use Rattle.verse_meaning_state.specs.Waits.{eqn}
 use Rattle.verse_meaning_state.proofs.Numbers.{eqn_same}
 use Rattle.verse_code_machine_parents.proofs.Lists.{no_both}
@@ -12,9 +11,8 @@ use Rattle.verse_sorts.specs.Sorts.{Sort, Sorts, Inherits, itself, above, Fits, 
 use Rattle.verse_sorts.specs.Sorts.{fits_int, fits_logic, fits_char, fits_span, nil_logic, nil_opt, int_span, unit_span, fits_enum}
 use Rattle.verse_sorts.specs.Sorts.{fits_obj, fits_var, fits_event, fits_task, fits_opt, fits_list, fits_map, fits_tuple, fit_none}
 use Rattle.verse_sorts.specs.Sorts.{fit_more, IsKey, key_never, key_nil, key_int, key_logic, key_char, key_enum, key_text}
-use Rattle.verse_sorts.specs.Typing.{AllFit, fit_no, fit_so}
 use Rattle.verse_verify_kept.specs.Notes.{ClassNote, parent_in}
-use Rattle.verse_verify_faults.specs.Fitting.{same, same_all, heir, on_parent, fit, fit_each, each_fit, is_key}
+use Rattle.verse_verify_faults.specs.Fitting.{same, same_all, heir, on_parent, fit, fit_each, is_key}
 
 pub same_number : (a b : ℕ) → a ≡ b → eqn a b ≡ true
 same_number a b e = subst (λ b. eqn a b ≡ true) e (eqn_same a)

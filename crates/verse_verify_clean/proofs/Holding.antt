@@ -1,27 +1,25 @@
 -- What is asked of Trys, locals that are written, failures, waits and deferred blocks passes the tests.
-use Rattle.std.proofs.Common.{◌≡◌, ℕ, zero, suc, ◌+◌, ◌<◌, length, map, List, [], ◌∷◌, ◌++◌, Option, Some, None, Bool, true, false, cond}
+use Rattle.std.proofs.Common.{◌≡◌, ℕ, ◌+◌, length, List, [], ◌∷◌, ◌++◌, Option, Some, None, true}
 use Rattle.std.proofs.Common.{refl, sym, subst, ap, ◌∙◌}
-use Rattle.std.specs.Prelude.{◌&&◌, ◌||◌, not, nat_lt, slice_get}
+use Rattle.std.specs.Prelude.{◌&&◌, not, nat_lt, slice_get}
 use Rattle.std.proofs.lemmas.Bool.{and_from, or_left, or_right, lt-ltb}
 use Rattle.verse_code.specs.declared.operations.Op.{Op}
-use Rattle.verse_code.specs.declared.operations.Op.TheVariants as o
 use Rattle.verse_code.specs.declared.codes.Code.{Code}
-use Rattle.verse_meaning_state.specs.Waits.{eqn}
 use Rattle.verse_sorts.specs.Sorts as s
 use Rattle.verse_sorts.specs.Sorts.{Sort}
 use Rattle.verse_sorts.specs.Typing.{at}
-use Rattle.verse_verify_kept.specs.Notes.{FuncNote, Open, Point, names}
-use Rattle.verse_verify_kept.specs.Rules.{MayFail, in_try, in_function, MayWait, Quiet, quiet_no, quiet_so}
-use Rattle.verse_verify_kept.specs.Rules.{Around, around_no, around_so, Entry, Ready, ready_no, ready_so}
-use Rattle.verse_verify_faults.specs.Fitting.{same, each_fit}
-use Rattle.verse_verify_faults.specs.Spots.{Mark, Spot, Table, spot_at, above, opens, even, cut}
+use Rattle.verse_verify_kept.specs.Notes.{FuncNote, Point, names}
+use Rattle.verse_verify_kept.specs.Rules.{MayFail, in_try, in_function, MayWait, Quiet, quiet_so}
+use Rattle.verse_verify_kept.specs.Rules.{Around, around_so, Entry, Ready, ready_so}
+use Rattle.verse_verify_faults.specs.Fitting.{same}
+use Rattle.verse_verify_faults.specs.Spots.{Mark, Spot, Table, spot_at, above, opens, cut}
 use Rattle.verse_verify_faults.specs.Stepping.{try_label, spot_locals}
-use Rattle.verse_verify_faults.specs.Faults.{is_none, is_nil, same_number, same_numbers, same_arm, on_spot, all_around, asks_nothing}
+use Rattle.verse_verify_faults.specs.Faults.{is_none, is_nil, same_numbers, on_spot, all_around, asks_nothing}
 use Rattle.verse_verify_faults.specs.Faults.{ends_with, entry_fits, func_fails, func_waits, is_around, is_quiet, label_behind}
 use Rattle.verse_verify_faults.specs.Faults.{locals_at, may_fail, may_wait, ready, tries_of}
 use Rattle.verse_verify_faults.proofs.Leading.{notes, point_there, Fitting}
 use Rattle.verse_verify_laws.proofs.Holding.{Spotted, spotted, names_are}
-use Rattle.verse_verify_clean.specs.Laws.{Told, Reached, reached_no, reached_so}
+use Rattle.verse_verify_clean.specs.Laws.{Told, Reached, reached_so}
 use Rattle.verse_verify_clean.proofs.Fitting as fitting
 use Rattle.verse_verify_clean.proofs.Leading as leading
 

@@ -1,5 +1,5 @@
 -- Where an operation leads, the next state passes the tests.
-use Rattle.std.proofs.Common.{◌≡◌, ℕ, zero, suc, ◌+◌, ◌≤◌, length, take, map, List, [], ◌∷◌, ◌++◌, Option, Some, None, Bool, true}
+use Rattle.std.proofs.Common.{◌≡◌, ℕ, ◌+◌, ◌≤◌, length, take, map, List, [], ◌∷◌, ◌++◌, Option, Some, None, true}
 use Rattle.std.proofs.Common.{refl, sym, subst, ap, ap₂, arith, ◌∙◌}
 use Rattle.std.specs.Prelude.{◌&&◌}
 use Rattle.std.proofs.lemmas.Bool.{and_from, and_parts}
@@ -10,10 +10,10 @@ use Rattle.verse_meaning_state.proofs.Numbers.{eqn_same}
 use Rattle.verse_sorts.specs.Sorts.{Sort}
 use Rattle.verse_sorts.specs.Typing.{AllFit, fit_no, fit_so}
 use Rattle.verse_verify_kept.specs.Notes.{Point, Notes, parent_of}
-use Rattle.verse_verify_kept.specs.Rules.{Fit, AllIn, in_no, in_so, Kin, Leads, To, TriesFit, tries_no, tries_so}
+use Rattle.verse_verify_kept.specs.Rules.{Fit, AllIn, in_no, in_so, Kin, Leads, To, TriesFit, tries_so}
 use Rattle.verse_verify_faults.specs.Fitting.{fit, all_fit, each_fit}
-use Rattle.verse_verify_faults.specs.Spots.{Mark, Spot, Table, spot_at, room, above, beneath, opens, even, cut}
-use Rattle.verse_verify_faults.specs.Stepping.{Made, is, Part, inner, Goes, to}
+use Rattle.verse_verify_faults.specs.Spots.{Mark, Spot, Table, spot_at, above, beneath, opens, even, cut}
+use Rattle.verse_verify_faults.specs.Stepping.{Made, is, inner, Goes, to}
 use Rattle.verse_verify_faults.specs.Faults.{same_number, same_numbers, same_arm, same_marks, known_marks, on_spot, holds, each_holds}
 use Rattle.verse_verify_faults.specs.Faults.{of_part, suits, all_suit}
 use Rattle.verse_verify_faults.proofs.Leading.{notes, Fitting}

@@ -1,26 +1,26 @@
 -- Trys that open and end.
-use Rattle.std.proofs.Common.{◌≡◌, ℕ, zero, suc, ◌+◌, ◌-◌, ◌≤◌, length, take, drop, map, List, [], ◌∷◌, ◌++◌, Option, Some, None, Bool, true}
+use Rattle.std.proofs.Common.{◌≡◌, ℕ, suc, ◌+◌, ◌-◌, ◌≤◌, length, take, drop, map, List, [], ◌∷◌, ◌++◌, Option, Some, None, true}
 use Rattle.std.proofs.Common.{refl, sym, subst, ap, arith, ◌∙◌, le-leb}
 use Rattle.std.specs.Prelude.{◌&&◌, slice_get}
-use Rattle.std.proofs.lemmas.Bool.{and_from, and_parts}
+use Rattle.std.proofs.lemmas.Bool.{and_from}
 use Rattle.std.proofs.lemmas.List.{length-append}
 use Rattle.verse_code.specs.declared.operations.Op.{Op}
 use Rattle.verse_code.specs.declared.operations.Op.TheVariants as o
 use Rattle.verse_code.specs.declared.codes.Code.{Code}
 use Rattle.verse_meaning_state.specs.Waits.{eqn}
 use Rattle.verse_sorts.specs.Sorts.{Sort}
-use Rattle.verse_verify_kept.specs.Notes.{Open, Point, Notes, point_at}
+use Rattle.verse_verify_kept.specs.Notes.{Open, Point, Notes}
 use Rattle.verse_verify_kept.specs.Rules as r
 use Rattle.verse_verify_faults.specs.Spots.{Mark, Spot, Table, spot_at, room, above, beneath, opens, even, cut}
 use Rattle.verse_verify_faults.specs.Stepping as step
 use Rattle.verse_verify_faults.specs.Stepping.{Made, is, Goes, inner, to}
-use Rattle.verse_verify_faults.specs.Faults.{at_height, level, same_defers, try_defers, same_numbers, each_holds}
+use Rattle.verse_verify_faults.specs.Faults.{at_height, level, same_defers, try_defers, each_holds}
 use Rattle.verse_verify_faults.proofs.Cutting.{whole}
 use Rattle.verse_verify_faults.proofs.Leading.{notes, point_there, Fitting}
 use Rattle.verse_verify_laws.proofs.Steps.{Fine}
 use Rattle.verse_verify_laws.proofs.Marks.{length_beneath, above_less, even_less, opens_less}
 use Rattle.verse_verify_clean.proofs.Fitting as fitting
-use Rattle.verse_verify_clean.proofs.Leading.{SuitAll, suit_no, suit_so, Suit, suits_so, bare, each_is, numbers_back}
+use Rattle.verse_verify_clean.proofs.Leading.{suit_no, suit_so, Suit, suits_so, bare, each_is, numbers_back}
 use Rattle.verse_verify_clean.proofs.Steps.{Here, evenly, led}
 
 module _ (c : Code) (t : Table) (p : Spot) (i : ℕ) (here : Here c t p i) where

@@ -1,18 +1,18 @@
 -- Operations on values with parts.
-use Rattle.std.proofs.Common.{◌≡◌, ◌≢◌, ℕ, zero, suc, ◌+◌, length, List, [], ◌∷◌, Option, Some, None, Bool, true, false, cond}
+use Rattle.std.proofs.Common.{◌≡◌, ◌≢◌, ℕ, zero, suc, ◌+◌, length, List, [], ◌∷◌, Some, None, Bool, true, false, cond}
 use Rattle.std.proofs.Common.{refl, sym, subst, arith}
-use Rattle.std.specs.Prelude.{nat_lt, ◌&&◌, ◌||◌, slice_get}
+use Rattle.std.specs.Prelude.{nat_lt, ◌&&◌, ◌||◌}
 use Rattle.std.proofs.lemmas.Bool.{and_from, or_left, or_right}
 use Rattle.verse_code.specs.declared.operations.Op.{Op}
 use Rattle.verse_code.specs.declared.operations.Op.TheVariants as o
 use Rattle.verse_code.specs.declared.codes.Code.{Code}
 use Rattle.verse_sorts.specs.Sorts as s
 use Rattle.verse_sorts.specs.Sorts.{Sort, to_none, to_any, from_never, fits_list, fits_map, fits_var, fits_event, IsKey}
-use Rattle.verse_sorts.proofs.Fitting.{fits_on, fits_itself}
-use Rattle.verse_verify_kept.specs.Notes.{ClassNote, Point, Notes, parent_of}
+use Rattle.verse_sorts.proofs.Fitting.{fits_on}
+use Rattle.verse_verify_kept.specs.Notes.{Point, Notes, parent_of}
 use Rattle.verse_verify_kept.specs.Rules as r
 use Rattle.verse_verify_kept.specs.Rules.{Fit, AllIn, in_no, in_so, Pops, pops_no, pops_so, Keyed, keyed_no, keyed_so}
-use Rattle.verse_verify_faults.specs.Fitting.{fit, all_fit, is_key, on_list, on_map, on_var, on_event}
+use Rattle.verse_verify_faults.specs.Fitting.{fit, all_fit, is_key}
 use Rattle.verse_verify_faults.specs.Spots.{Spot, Table, above, cut}
 use Rattle.verse_verify_faults.specs.Stepping as step
 use Rattle.verse_verify_faults.specs.Stepping.{Goes, Stepped, firsts, seconds, all_keys, part_of_list, list_of, map_of}

@@ -1,5 +1,5 @@
 -- What it takes that an operation breaks no rule.
-use Rattle.std.proofs.Common.{◌≡◌, ℕ, zero, suc, length, List, [], ◌∷◌, Option, Some, None, Bool, true, false, cond, refl, sym, subst}
+use Rattle.std.proofs.Common.{◌≡◌, ℕ, length, List, ◌∷◌, Option, Some, None, Bool, true, false, cond, refl, sym, subst}
 use Rattle.std.specs.Prelude.{◌&&◌, ◌||◌, not}
 use Rattle.std.proofs.lemmas.Bool.{and_from}
 use Rattle.verse_code.specs.declared.operations.Op.{Op}
@@ -11,7 +11,7 @@ use Rattle.verse_verify_kept.specs.Rules.{Fit, Pops, pops_no, pops_so}
 use Rattle.verse_verify_faults.specs.Fitting.{fit}
 use Rattle.verse_verify_faults.specs.Spots.{Spot, Table, spot_at, even}
 use Rattle.verse_verify_faults.specs.Stepping.{Goes, Stepped, leads, need, on_there, pop, pop_all, ints}
-use Rattle.verse_verify_faults.specs.Faults.{all_suit, all_around, all_quiet, can_fail, callee_is, by_step, implies}
+use Rattle.verse_verify_faults.specs.Faults.{all_suit, all_around, all_quiet, can_fail, callee_is, implies}
 use Rattle.verse_verify_faults.specs.Faults.{is_call, is_spawn, can_wait}
 use Rattle.verse_verify_faults.specs.Faults.{keeps_8, keeps_9, may_fail, may_wait, parts_fit, ready, tries_fit}
 use Rattle.verse_verify_faults.specs.Faults.{tries_of}

@@ -1,10 +1,10 @@
 -- Classes, functions, entries, and the whole.
-use Rattle.std.proofs.Common.{◌≡◌, ℕ, zero, suc, ◌+◌, ◌-◌, ◌≤◌, ◌<◌, length, List, [], ◌∷◌, ◌++◌, Option, Some, None, Bool, true, false}
+use Rattle.std.proofs.Common.{◌≡◌, ℕ, zero, suc, ◌+◌, ◌-◌, ◌<◌, length, List, [], ◌∷◌, ◌++◌, Option, Some, None, Bool, true, false}
 use Rattle.std.proofs.Common.{cond, refl, sym, subst, ap, arith, ◌∙◌}
-use Rattle.std.specs.Prelude.{◌&&◌, ◌||◌, not, slice_get}
-use Rattle.std.proofs.lemmas.Bool.{and_from, cond_both}
+use Rattle.std.specs.Prelude.{◌&&◌, not, slice_get}
+use Rattle.std.proofs.lemmas.Bool.{and_from}
 use Rattle.std.proofs.lemmas.Option.{none-some, same_Some}
-use Rattle.verse_base.proofs.Facts.{present, get_within}
+use Rattle.verse_base.proofs.Facts.{get_within}
 use Rattle.verse_code.specs.declared.operations.Op.{Op}
 use Rattle.verse_code.specs.declared.codes.Func.{Func}
 use Rattle.verse_code.specs.declared.codes.Class.{Class}
@@ -15,11 +15,11 @@ use Rattle.verse_meaning_state.proofs.Numbers.{eqn_is, eqn_not}
 use Rattle.verse_code_machine_parents.proofs.Lists.{no_both}
 use Rattle.verse_sorts.specs.Sorts as s
 use Rattle.verse_sorts.specs.Sorts.{Sort}
-use Rattle.verse_verify_kept.specs.Notes.{ClassNote, FuncNote, Point, Notes, parent_in, parent_of}
+use Rattle.verse_verify_kept.specs.Notes.{ClassNote, FuncNote, Point, Notes, parent_in}
 use Rattle.verse_verify_kept.specs.Rules.{Fit, AllFrom, from_no, from_so, nones, rest_of, Begins, Overrides, ClassIs, MainIs, Verified}
-use Rattle.verse_verify_faults.specs.Fitting.{same, fit, each_fit}
+use Rattle.verse_verify_faults.specs.Fitting.{same, fit}
 use Rattle.verse_verify_faults.specs.Spots.{Spot, Table, spot_at, cut}
-use Rattle.verse_verify_faults.specs.Faults.{is_none, is_nil, on_spot, begins, begins_at, fault_at, fault_here, first_fault, or_later}
+use Rattle.verse_verify_faults.specs.Faults.{on_spot, begins, begins_at, fault_at, fault_here, first_fault, or_later}
 use Rattle.verse_verify_faults.specs.Faults.{comes_back, prefix, same_each, overrides, all_override, takes_object, is_method, are_methods}
 use Rattle.verse_verify_faults.specs.Faults.{methods_at, slots_in, inherits, class_is, class_fault, takes_inputs, func_is, func_fault}
 use Rattle.verse_verify_faults.specs.Faults.{or_else, after_tables, notes_fault}

@@ -1,5 +1,5 @@
 -- Tasks: waits, groups, branches and what ends an arm.
-use Rattle.std.proofs.Common.{◌≡◌, ℕ, zero, suc, ◌+◌, ◌≤◌, ◌<◌, length, map, List, [], ◌∷◌, Option, Some, None, Bool, true, false, cond}
+use Rattle.std.proofs.Common.{◌≡◌, ℕ, suc, ◌+◌, ◌≤◌, ◌<◌, length, List, [], ◌∷◌, Option, Some, None, true, cond}
 use Rattle.std.proofs.Common.{refl, sym, subst, ap, arith, ◌∙◌}
 use Rattle.std.specs.Prelude.{◌&&◌, not, nat_lt, slice_get}
 use Rattle.std.proofs.lemmas.Bool.{and_from, lt-ltb}
@@ -7,24 +7,20 @@ use Rattle.verse_code.specs.declared.operations.Op.{Op}
 use Rattle.verse_code.specs.declared.operations.Op.TheVariants as o
 use Rattle.verse_code.specs.declared.codes.Code.{Code}
 use Rattle.verse_code_machine.specs.Acts.{label_of}
-use Rattle.verse_meaning_state.specs.Waits.{eqn}
-use Rattle.verse_meaning_state.proofs.Numbers.{eqn_same}
-use Rattle.verse_sorts.specs.Sorts as s
 use Rattle.verse_sorts.specs.Sorts.{Sort}
 use Rattle.verse_verify_kept.specs.Notes.{Point, Notes}
 use Rattle.verse_verify_kept.specs.Rules as r
 use Rattle.verse_verify_kept.specs.Rules.{Fit}
-use Rattle.verse_verify_faults.specs.Fitting.{fit, all_fit}
+use Rattle.verse_verify_faults.specs.Fitting.{fit}
 use Rattle.verse_verify_faults.specs.Spots.{Spot, Table, spot_at, above, cut}
 use Rattle.verse_verify_faults.specs.Stepping as step
 use Rattle.verse_verify_faults.specs.Stepping.{Goes, is, one_of}
-use Rattle.verse_verify_faults.specs.Faults.{is_none, is_nil, each_holds, are_arms, may_wait}
+use Rattle.verse_verify_faults.specs.Faults.{is_none, is_nil, each_holds, are_arms}
 use Rattle.verse_verify_faults.proofs.Leading.{notes, Fitting}
 use Rattle.verse_verify_laws.proofs.Steps.{Fine}
 use Rattle.verse_verify_laws.proofs.Holding.{Spotted, spotted}
-use Rattle.verse_verify_clean.specs.Laws.{Told}
 use Rattle.verse_verify_clean.proofs.Fitting as fitting
-use Rattle.verse_verify_clean.proofs.Leading.{SuitAll, suit_no, suit_so, Suit, test_of, pushed, pushed_is, fits, all_fits, each_is, marks_back}
+use Rattle.verse_verify_clean.proofs.Leading.{SuitAll, suit_no, suit_so, Suit, test_of, pushed, fits, all_fits, each_is, marks_back}
 use Rattle.verse_verify_clean.proofs.Steps.{Here, evenly, led, needed, popped}
 use Rattle.verse_verify_clean.proofs.Holding.{waits_back, arm_waits, none_back, nil_back, some_back, no_opens, bare_spot}
 use Rattle.verse_verify_clean.proofs.Values.{on_one}

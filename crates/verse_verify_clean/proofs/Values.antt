@@ -1,12 +1,11 @@
 -- Operations that push, compute and jump.
-use Rattle.std.proofs.Common.{◌≡◌, ℕ, zero, suc, length, List, [], ◌∷◌, Option, Some, None, Bool, true, false, refl, sym, subst}
-use Rattle.std.specs.Prelude.{ℤ, ◌&&◌, ◌||◌}
+use Rattle.std.proofs.Common.{◌≡◌, ℕ, List, [], ◌∷◌, Option, Some, true, refl, sym, subst}
+use Rattle.std.specs.Prelude.{ℤ}
 use Rattle.verse_code.specs.declared.operations.Op.{Op}
 use Rattle.verse_code.specs.declared.operations.Op.TheVariants as o
 use Rattle.verse_code.specs.declared.codes.Code.{Code}
 use Rattle.verse_sorts.specs.Sorts as s
 use Rattle.verse_sorts.specs.Sorts.{Sort}
-use Rattle.verse_sorts.specs.Typing.{at}
 use Rattle.verse_verify_kept.specs.Notes.{Point, Notes}
 use Rattle.verse_verify_kept.specs.Rules as r
 use Rattle.verse_verify_kept.specs.Rules.{IsRead}
@@ -15,9 +14,8 @@ use Rattle.verse_verify_faults.specs.Stepping as step
 use Rattle.verse_verify_faults.specs.Stepping.{Goes, readable}
 use Rattle.verse_verify_faults.proofs.Leading.{notes}
 use Rattle.verse_verify_laws.proofs.Steps.{Fine}
-use Rattle.verse_verify_clean.specs.Laws.{Told}
 use Rattle.verse_verify_clean.proofs.Leading.{SuitAll, suit_no, suit_so, pushed_is, bare, fits}
-use Rattle.verse_verify_clean.proofs.Steps.{Here, evenly, led, implied, needed, there, popped, many, two_ints}
+use Rattle.verse_verify_clean.proofs.Steps.{Here, evenly, led, needed, there, popped, two_ints}
 use Rattle.verse_verify_clean.proofs.Holding.{fails_back}
 
 pub readable_back : (m : Option Sort) (a : Sort) → m ≡ Some a → IsRead a → readable m ≡ Some a

@@ -1,7 +1,7 @@
 -- Operations that write locals.
-use Rattle.std.proofs.Common.{◌≡◌, ℕ, zero, suc, ◌+◌, length, map, List, [], ◌∷◌, Option, Some, None, Bool, true, false}
+use Rattle.std.proofs.Common.{◌≡◌, ℕ, zero, suc, ◌+◌, map, List, [], ◌∷◌, Option, Some, None, true, false}
 use Rattle.std.proofs.Common.{refl, sym, subst, ap, ◌∙◌}
-use Rattle.std.specs.Prelude.{◌&&◌, ◌||◌}
+use Rattle.std.specs.Prelude.{◌&&◌}
 use Rattle.std.proofs.lemmas.Bool.{and_from, or_left, or_right}
 use Rattle.std.proofs.lemmas.Option.{none-some}
 use Rattle.verse_code.specs.declared.operations.Op.{Op}
@@ -23,7 +23,7 @@ use Rattle.verse_verify_faults.specs.Faults.{holds, each_holds, is_quiet, all_qu
 use Rattle.verse_verify_faults.proofs.Leading.{notes, Fitting}
 use Rattle.verse_verify_laws.proofs.Steps.{Fine}
 use Rattle.verse_verify_clean.specs.Laws.{Told}
-use Rattle.verse_verify_clean.proofs.Leading.{SuitAll, suit_no, suit_so, Suit, fits, each_is, wrote, wrote_is, bare}
+use Rattle.verse_verify_clean.proofs.Leading.{SuitAll, suit_no, suit_so, fits, each_is, wrote, wrote_is, bare}
 use Rattle.verse_verify_clean.proofs.Steps.{Here, evenly, led, needed, there, popped, two_ints}
 use Rattle.verse_verify_clean.proofs.Holding.{quiet_in}
 use Rattle.verse_verify_clean.proofs.Values.{readable_back, counted_back}

@@ -1,6 +1,5 @@
 -- What a table has that the tests look at and the rules do not tell.
-use Rattle.std.specs.Prelude.{◌≡◌, ℕ, List, [], ◌∷◌, ◌≤◌, ◌<◌, length, Option, Some, None, true, slice_get}
-use Rattle.verse_code.specs.declared.operations.Op.{Op}
+use Rattle.std.specs.Prelude.{◌≡◌, ℕ, List, [], ◌∷◌, ◌≤◌, ◌<◌, length, Some, None, true, slice_get}
 use Rattle.verse_code.specs.declared.operations.Op.TheVariants as o
 use Rattle.verse_code.specs.declared.codes.Code.{Code}
 use Rattle.verse_code.specs.Validity.{Valid}
