@@ -1,7 +1,7 @@
 -- Deferred blocks.
 use Rattle.std.proofs.Common.{◌≡◌, ℕ, suc, ◌+◌, ◌≤◌, length, map, List, [], ◌∷◌, Option, Some, None, true, cond}
 use Rattle.std.proofs.Common.{refl, sym, subst, ap, arith, ◌∙◌}
-use Rattle.std.specs.Prelude.{not, slice_get}
+use Rattle.std.specs.Prelude.{not}
 use Rattle.std.proofs.lemmas.Bool.{and_from}
 use Rattle.verse_code.specs.declared.operations.Op.{Op}
 use Rattle.verse_code.specs.declared.operations.Op.TheVariants as o
@@ -138,8 +138,8 @@ module _ (c : Code) (t : Table) (p : Spot) (i : ℕ) (here : Here c t p i) where
     tries = Some [];
   }
 
-  pub defer_end_back : slice_get c.ops i ≡ Some o.DeferEnd → Passed o.DeferEnd → Done o.DeferEnd
-  defer_end_back is_op (r.of_defer_end {e = e} {point = point} block tries stack defers live f) =
+  pub defer_end_back : Passed o.DeferEnd → Done o.DeferEnd
+  defer_end_back (r.of_defer_end {e = e} {point = point} block tries stack defers live f) =
       let bare_now = bare_spot p stack tries in
       led c t p i here _
       (subst (λ m. SuitAll c t here.told p (step.block_again c t p i m)) (sym block)
@@ -150,7 +150,7 @@ module _ (c : Code) (t : Table) (p : Spot) (i : ℕ) (here : Here c t p i) where
       by_spot : Spotted c t e point → Suit c t here.told p (again e)
       by_spot x =
           let q = x.spot in
-          let w = here.told.blocks i p e q here.there is_op block x.there in
+          let w = here.told.blocks i p e q here.there block x.there in
           test_of c t here.told p (again e) q x.there w.func
           (and_from _ _ (and_from _ _ (and_from _ _ (and_from _ _ (arm_back p.arm q.arm w.arm)
           (number_back (Some e) q.block (sym w.block))) (numbers_back p.outer q.outer w.outer))

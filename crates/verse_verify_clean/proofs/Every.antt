@@ -188,92 +188,92 @@ module _ (c : Code) (t : Table) (p : Spot) (i : ℕ) where
   enough (r.of_defer_end b a d e l f) = no_less _
 
   module _ (here : Here c t p i) where
-    back : (op : Op) → any_never p.locals ≡ false → slice_get c.ops i ≡ Some op → Passes c N i (cut p) op →
+    back : (op : Op) → any_never p.locals ≡ false → Passes c N i (cut p) op →
         Fine c t p i op (step.step c t p i op st)
-    back (o.Int a) full is f = values.int_back c t p i here f
-    back o.Unit full is f = values.unit_back c t p i here f
-    back o.False full is f = values.false_back c t p i here f
-    back o.True full is f = values.true_back c t p i here f
-    back (o.Char a) full is f = values.char_back c t p i here f
-    back (o.Text a) full is f = values.text_back c t p i here f
-    back (o.Enum a b) full is f = values.enum_back c t p i here f
-    back (o.Get a) full is f = values.get_back c t p i here f
-    back (o.Put a) full is f = writes.put_back c t p i here f
-    back o.Drop full is f = values.drop_back c t p i here f
-    back (o.Add a) full is f = values.add_back c t p i here f
-    back (o.Sub a) full is f = values.sub_back c t p i here f
-    back (o.Mul a) full is f = values.mul_back c t p i here f
-    back (o.Neg a) full is f = values.neg_back c t p i here f
-    back (o.Floor a) full is f = values.floor_back c t p i here f
-    back (o.Ceil a) full is f = values.ceil_back c t p i here f
-    back o.Mod full is f = values.mod_back c t p i here f
-    back (o.Concat a) full is f = parts.concat_back c t p i here f
-    back (o.Join a b) full is f = parts.join_back c t p i here f
-    back o.Lt full is f = values.lt_back c t p i here f
-    back o.Le full is f = values.le_back c t p i here f
-    back o.Gt full is f = values.gt_back c t p i here f
-    back o.Ge full is f = values.ge_back c t p i here f
-    back o.Eq full is f = values.eq_back c t p i here f
-    back o.Ne full is f = values.ne_back c t p i here f
-    back (o.Array a b) full is f = parts.array_back c t p i here f
-    back (o.Map a b) full is f = parts.map_back c t p i here f
-    back (o.Tuple a b) full is f = parts.tuple_back c t p i here f
-    back (o.Some a) full is f = values.some_back c t p i here f
-    back o.Query full is f = values.query_back c t p i here f
-    back (o.Item a) full is f = parts.item_back c t p i here f
-    back o.At full is f = parts.at_back c t p i here f
-    back o.Length full is f = values.length_back c t p i here f
-    back (o.New a) full is f = parts.new_back c t p i here f
-    back (o.Load a) full is f = parts.load_back c t p i here f
-    back (o.Store a b d e) full is f = parts.store_back c t p i here f
-    back (o.Object a b) full is f = parts.object_back c t p i here f
-    back (o.Event a) full is f = parts.event_back c t p i here f
-    back (o.Jump a) full is f = values.jump_back c t p i here f
-    back (o.Same a) full is f = values.same_back c t p i here f
-    back (o.Again a) full is f = values.again_back c t p i here f
-    back (o.Try a) full is f = marks.try_back c t p i here f
-    back o.Commit full is f = marks.commit_back c t p i here f
-    back o.Undo full is f = marks.undo_back c t p i here is f
-    back o.Fail full is f = values.fail_back c t p i here f
-    back (o.Call a) full is f = calls.call_back c t p i here f
-    back (o.Method a b) full is f = calls.method_back c t p i here f
-    back o.Return full is f = calls.return_back c t p i here f
-    back (o.Each a) full is f = writes.each_back c t p i here f
-    back (o.Range a) full is f = writes.range_back c t p i here f
-    back (o.Take a b d) full is f = writes.take_back c t p i here full f
-    back (o.Append a b) full is f = writes.append_back c t p i here f
-    back (o.Print a) full is f = values.print_back c t p i here f
-    back (o.Sleep a) full is f = tasks.sleep_back c t p i here f
-    back o.Forever full is f = tasks.forever_back c t p i here f
-    back o.AwaitTask full is f = tasks.await_task_back c t p i here f
-    back o.AwaitEvent full is f = tasks.await_event_back c t p i here f
-    back o.Signal full is f = tasks.signal_back c t p i here f
-    back (o.Spawn a) full is f = calls.spawn_back c t p i here f
-    back (o.SpawnMethod a b) full is f = calls.spawn_method_back c t p i here f
-    back (o.Group a b d) full is f = tasks.group_back c t p i here f
-    back (o.Arm a) full is f = elim f [ ]
-    back (o.Branch a) full is f = tasks.branch_back c t p i here f
-    back o.ArmEnd full is f = tasks.arm_end_back c t p i here is f
-    back (o.Defer a) full is f = blocks.defer_back c t p i here f
-    back (o.Leave a) full is f = blocks.leave_back c t p i here f
-    back o.DeferEnd full is f = blocks.defer_end_back c t p i here is f
+    back (o.Int a) full f = values.int_back c t p i here f
+    back o.Unit full f = values.unit_back c t p i here f
+    back o.False full f = values.false_back c t p i here f
+    back o.True full f = values.true_back c t p i here f
+    back (o.Char a) full f = values.char_back c t p i here f
+    back (o.Text a) full f = values.text_back c t p i here f
+    back (o.Enum a b) full f = values.enum_back c t p i here f
+    back (o.Get a) full f = values.get_back c t p i here f
+    back (o.Put a) full f = writes.put_back c t p i here f
+    back o.Drop full f = values.drop_back c t p i here f
+    back (o.Add a) full f = values.add_back c t p i here f
+    back (o.Sub a) full f = values.sub_back c t p i here f
+    back (o.Mul a) full f = values.mul_back c t p i here f
+    back (o.Neg a) full f = values.neg_back c t p i here f
+    back (o.Floor a) full f = values.floor_back c t p i here f
+    back (o.Ceil a) full f = values.ceil_back c t p i here f
+    back o.Mod full f = values.mod_back c t p i here f
+    back (o.Concat a) full f = parts.concat_back c t p i here f
+    back (o.Join a b) full f = parts.join_back c t p i here f
+    back o.Lt full f = values.lt_back c t p i here f
+    back o.Le full f = values.le_back c t p i here f
+    back o.Gt full f = values.gt_back c t p i here f
+    back o.Ge full f = values.ge_back c t p i here f
+    back o.Eq full f = values.eq_back c t p i here f
+    back o.Ne full f = values.ne_back c t p i here f
+    back (o.Array a b) full f = parts.array_back c t p i here f
+    back (o.Map a b) full f = parts.map_back c t p i here f
+    back (o.Tuple a b) full f = parts.tuple_back c t p i here f
+    back (o.Some a) full f = values.some_back c t p i here f
+    back o.Query full f = values.query_back c t p i here f
+    back (o.Item a) full f = parts.item_back c t p i here f
+    back o.At full f = parts.at_back c t p i here f
+    back o.Length full f = values.length_back c t p i here f
+    back (o.New a) full f = parts.new_back c t p i here f
+    back (o.Load a) full f = parts.load_back c t p i here f
+    back (o.Store a b d e) full f = parts.store_back c t p i here f
+    back (o.Object a b) full f = parts.object_back c t p i here f
+    back (o.Event a) full f = parts.event_back c t p i here f
+    back (o.Jump a) full f = values.jump_back c t p i here f
+    back (o.Same a) full f = values.same_back c t p i here f
+    back (o.Again a) full f = values.again_back c t p i here f
+    back (o.Try a) full f = marks.try_back c t p i here f
+    back o.Commit full f = marks.commit_back c t p i here f
+    back o.Undo full f = marks.undo_back c t p i here f
+    back o.Fail full f = values.fail_back c t p i here f
+    back (o.Call a) full f = calls.call_back c t p i here f
+    back (o.Method a b) full f = calls.method_back c t p i here f
+    back o.Return full f = calls.return_back c t p i here f
+    back (o.Each a) full f = writes.each_back c t p i here f
+    back (o.Range a) full f = writes.range_back c t p i here f
+    back (o.Take a b d) full f = writes.take_back c t p i here full f
+    back (o.Append a b) full f = writes.append_back c t p i here f
+    back (o.Print a) full f = values.print_back c t p i here f
+    back (o.Sleep a) full f = tasks.sleep_back c t p i here f
+    back o.Forever full f = tasks.forever_back c t p i here f
+    back o.AwaitTask full f = tasks.await_task_back c t p i here f
+    back o.AwaitEvent full f = tasks.await_event_back c t p i here f
+    back o.Signal full f = tasks.signal_back c t p i here f
+    back (o.Spawn a) full f = calls.spawn_back c t p i here f
+    back (o.SpawnMethod a b) full f = calls.spawn_method_back c t p i here f
+    back (o.Group a b d) full f = tasks.group_back c t p i here f
+    back (o.Arm a) full f = elim f [ ]
+    back (o.Branch a) full f = tasks.branch_back c t p i here f
+    back o.ArmEnd full f = tasks.arm_end_back c t p i here f
+    back (o.Defer a) full f = blocks.defer_back c t p i here f
+    back (o.Leave a) full f = blocks.leave_back c t p i here f
+    back o.DeferEnd full f = blocks.defer_end_back c t p i here f
 
     cond_later : (b : Bool) (x y : Option ℕ) → (b ≡ true → ⊥) → y ≡ None → cond b x y ≡ None
     cond_later true x y h e = elim (h refl) [ ]
     cond_later false x y h e = e
 
-    none_of : (op : Op) → any_never p.locals ≡ false → slice_get c.ops i ≡ Some op → Passes c N i (cut p) op →
+    none_of : (op : Op) → any_never p.locals ≡ false → Passes c N i (cut p) op →
         fault_of c t i p op ≡ None
-    none_of op full is f =
+    none_of op full f =
         cond_later (nat_lt (room p.stack p.tries) (pops c t op)) _ _
         (λ h. wrong (room p.stack p.tries) (pops c t op) (ltb-true (room p.stack p.tries) (pops c t op) h)
-        (subst (λ n. pops c t op ≤ n) (room_is p.stack p.tries) (enough f))) (back op full is f).none
+        (subst (λ n. pops c t op ≤ n) (room_is p.stack p.tries) (enough f))) (back op full f).none
       where
         wrong : (a b : ℕ) → suc a ≤ b → b ≤ a → ⊥
         wrong a b l k = omega (arith, l, k)
 
-    pub none_in : (op : Op) → slice_get c.ops i ≡ Some op → Asked c N i (cut p) op → fault_in c t i p op ≡ None
-    none_in op is a = by_values (lacks_values p) refl
+    pub none_in : (op : Op) → Asked c N i (cut p) op → fault_in c t i p op ≡ None
+    none_in op a = by_values (lacks_values p) refl
       where
         bits : (a b : Bool) → (a || b) ≡ false → (a ≡ false) × (b ≡ false)
         bits false false e = (refl, refl)
@@ -292,7 +292,7 @@ module _ (c : Code) (t : Table) (p : Spot) (i : ℕ) where
         by_values : (b : Bool) → lacks_values p ≡ b →
             cond b (cond (stands c t i p) None (Some 8)) (fault_of c t i p op) ≡ None
         by_values true e = first (stands c t i p) (Some 8) (and_from _ _ here.around here.ready)
-        by_values false e = none_of op (bits _ _ e).1 is (passing e a)
+        by_values false e = none_of op (bits _ _ e).1 (passing e a)
 
 module _ (c : Code) (t : Table) (told : Told c t) where
   pub none_here : (i : ℕ) (p : Spot) (op : Op) → spot_at t i ≡ Some p → slice_get c.ops i ≡ Some op →
@@ -303,4 +303,4 @@ module _ (c : Code) (t : Table) (told : Told c t) where
         there = e;
         around = around_here c t i p x.around (told.opened i p e);
         ready = ready_back c t told p p.locals p.defers x.ready;
-      }) op is (subst (Asked c (notes c t) i (cut p)) (same_Some _ _ (sym x.is_op ∙ is)) x.passes)
+      }) op (subst (Asked c (notes c t) i (cut p)) (same_Some _ _ (sym x.is_op ∙ is)) x.passes)

@@ -138,8 +138,8 @@ module _ (c : Code) (t : Table) (p : Spot) (i : ℕ) (here : Here c t p i) where
           (subst (λ ns. level c t ns p.defers ≡ true) (sym eq)
           (level_back m (subst (λ (x : Open). r.Level c N x.index p.defers) (first_is m ms e) h))) refl refl refl refl refl
 
-  pub undo_back : slice_get c.ops i ≡ Some o.Undo → Passed o.Undo → Done o.Undo
-  undo_back is_op (r.of_undo {t = x} {ts = xs} {label = label} e empty h is_try f) = by_tries p.tries refl e
+  pub undo_back : Passed o.Undo → Done o.Undo
+  undo_back (r.of_undo {t = x} {ts = xs} {label = label} e empty h is_try f) = by_tries p.tries refl e
     where
       all_beneath : (a b n : ℕ) → n ≡ a + b → a ≡ 0 → n ≡ b
       all_beneath a b n e f = omega (arith, e, f)
@@ -148,7 +148,7 @@ module _ (c : Code) (t : Table) (p : Spot) (i : ℕ) (here : Here c t p i) where
       by_tries [] eq e = cc
       by_tries (m ∷ ms) eq e =
           let tried = subst (λ (x : Open). slice_get c.ops x.index ≡ Some (o.Try label)) (first_is m ms e) is_try in
-          let q = here.told.undone i p m ms label here.there is_op eq tried in
+          let q = here.told.labels i p m ms label here.there eq tried in
           let locals = ap (λ (n : Option Op). step.label_locals t (step.try_label n) p.locals) tried ∙
               ap (λ (n : Option Spot). step.spot_locals n p.locals) q.1 in
           let ev_here = subst (λ ms. even (length p.stack) ms ≡ true) eq ev in

@@ -70,9 +70,9 @@ module _ (c : Code) (t : Table) (p : Spot) (i : ℕ) (here : Here c t p i) where
       popped c t p i here _ _ e (needed c t p i here _ 5 refl
       (led c t p i here _ (on_one c t p i here _ l) refl refl refl (waits_back c t p w) refl refl))
 
-  pub arm_end_back : slice_get c.ops i ≡ Some o.ArmEnd → Passed o.ArmEnd → Done o.ArmEnd
-  arm_end_back is_op (r.of_arm_end {a = a} {r = b} e tries arm block defers f) =
-      let w = here.told.arms i p here.there is_op in
+  pub arm_end_back : Passed o.ArmEnd → Done o.ArmEnd
+  arm_end_back (r.of_arm_end {a = a} {r = b} e tries arm block defers f) =
+      let w = here.told.arms i p b here.there arm in
       popped c t p i here _ _ e (needed c t p i here _ 5
       (and_from (fit t.classes a (step.arm_sort p.arm)) true
       (subst (λ m. fit t.classes a (step.arm_sort m) ≡ true) (sym arm) (fits c t here.told f)) refl)

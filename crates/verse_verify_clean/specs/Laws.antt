@@ -3,6 +3,7 @@ use Rattle.std.specs.Prelude.{◌≡◌, ℕ, List, [], ◌∷◌, ◌≤◌, �
 use Rattle.verse_code.specs.declared.operations.Op.TheVariants as o
 use Rattle.verse_code.specs.declared.codes.Code.{Code}
 use Rattle.verse_code.specs.Validity.{Valid}
+use Rattle.verse_sorts.specs.Sorts.{Sort}
 use Rattle.verse_verify_kept.specs.Notes.{FuncNote, parent_in}
 use Rattle.verse_verify_kept.specs.Rules.{Verified}
 use Rattle.verse_verify_faults.specs.Spots.{Mark, Spot, Table, spot_at, even, notes_of}
@@ -42,16 +43,15 @@ pub record Told (c : Code) (t : Table) : Type 0 where
   pub falling : Falling t
   -- the heights of open Trys are heights of the stack
   pub even : (i : ℕ) (p : Spot) → spot_at t i ≡ Some p → even (length p.stack) p.tries ≡ true
-  -- a Try that is open is reached; and its label, where the Try is undone
+  -- a Try that is open is reached, and so is its label
   pub opened : (i : ℕ) (p : Spot) → spot_at t i ≡ Some p → Reached t (tries_of c t p)
-  pub undone : (i : ℕ) (p : Spot) (m : Mark) (ms : List Mark) (l : ℕ) → spot_at t i ≡ Some p →
-      slice_get c.ops i ≡ Some o.Undo → p.tries ≡ m ∷ ms → slice_get c.ops m.index ≡ Some (o.Try l) →
-      (q : Spot) × (spot_at t l ≡ Some q)
+  pub labels : (i : ℕ) (p : Spot) (m : Mark) (ms : List Mark) (l : ℕ) → spot_at t i ≡ Some p →
+      p.tries ≡ m ∷ ms → slice_get c.ops m.index ≡ Some (o.Try l) → (q : Spot) × (spot_at t l ≡ Some q)
   -- the function of an arm may wait
-  pub arms : (i : ℕ) (p : Spot) → spot_at t i ≡ Some p → slice_get c.ops i ≡ Some o.ArmEnd → Lasts t p.func
-  -- where a deferred block ends, it is the block in which the state stands
-  pub blocks : (i : ℕ) (p : Spot) (e : ℕ) (q : Spot) → spot_at t i ≡ Some p →
-      slice_get c.ops i ≡ Some o.DeferEnd → p.block ≡ Some e → spot_at t e ≡ Some q → Within p e q
+  pub arms : (i : ℕ) (p : Spot) (a : Sort) → spot_at t i ≡ Some p → p.arm ≡ Some a → Lasts t p.func
+  -- the deferred block in which a state stands
+  pub blocks : (i : ℕ) (p : Spot) (e : ℕ) (q : Spot) → spot_at t i ≡ Some p → p.block ≡ Some e →
+      spot_at t e ≡ Some q → Within p e q
 
 -- notes that fulfil the rules break none of V2 to V9
 abbrev pub VerifiedNotes : Type 0
