@@ -208,7 +208,8 @@ module _ (c : Code) (t : Table) (p : Spot) (i : ℕ) (here : Here c t p i) where
 
       by_may : may_fail c t p ≡ true →
           implies c t (nat_lt 0 (suc m) || (false && callee_is c t None (λ g. g.may_fail))) (may_fail c t p) ≡ true
-      by_may e = subst (λ b. implies c t (nat_lt 0 (suc m) || (false && callee_is c t None (λ g. g.may_fail))) b ≡ true) (sym e) (or_right _ _ refl)
+      by_may e = subst (λ b. implies c t (nat_lt 0 (suc m) || (false && callee_is c t None (λ g. g.may_fail))) b ≡ true) (sym e)
+          (or_right _ _ refl)
 
   pub store_back : {slot m mode k : ℕ} → Passed (o.Store slot m mode k) → Done (o.Store slot m mode k)
   store_back {m = m} {mode = mode} (r.of_store e ps h q w f l) =

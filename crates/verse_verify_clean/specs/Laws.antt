@@ -42,18 +42,21 @@ pub record Within (p : Spot) (e : ℕ) (q : Spot) : Type 0 where
 pub record Told (c : Code) (t : Table) : Type 0 where
   pub falling : Falling t
   -- the heights of open Trys are heights of the stack
-  pub even : (i : ℕ) (p : Spot) → spot_at t i ≡ Some p → even (length p.stack) p.tries ≡ true
+  pub even : (i : ℕ) (p : Spot) → spot_at t i ≡ Some p →
+      even (length p.stack) p.tries ≡ true
   -- a Try that is open is reached, and so is its label
   pub opened : (i : ℕ) (p : Spot) → spot_at t i ≡ Some p → Reached t (tries_of c t p)
-  pub labels : (i : ℕ) (p : Spot) (m : Mark) (ms : List Mark) (l : ℕ) → spot_at t i ≡ Some p →
-      p.tries ≡ m ∷ ms → slice_get c.ops m.index ≡ Some (o.Try l) → (q : Spot) × (spot_at t l ≡ Some q)
+  pub labels : (i : ℕ) (p : Spot) (m : Mark) (ms : List Mark) (l : ℕ) →
+      spot_at t i ≡ Some p → p.tries ≡ m ∷ ms → slice_get c.ops m.index ≡ Some (o.Try l) →
+      (q : Spot) × (spot_at t l ≡ Some q)
   -- the function of an arm may wait
-  pub arms : (i : ℕ) (p : Spot) (a : Sort) → spot_at t i ≡ Some p → p.arm ≡ Some a → Lasts t p.func
+  pub arms : (i : ℕ) (p : Spot) (a : Sort) → spot_at t i ≡ Some p → p.arm ≡ Some a →
+      Lasts t p.func
   -- the deferred block in which a state stands
-  pub blocks : (i : ℕ) (p : Spot) (e : ℕ) (q : Spot) → spot_at t i ≡ Some p → p.block ≡ Some e →
-      spot_at t e ≡ Some q → Within p e q
+  pub blocks : (i : ℕ) (p : Spot) (e : ℕ) (q : Spot) → spot_at t i ≡ Some p →
+      p.block ≡ Some e → spot_at t e ≡ Some q → Within p e q
 
 -- notes that fulfil the rules break none of V2 to V9
 abbrev pub VerifiedNotes : Type 0
-VerifiedNotes = (c : Code) (t : Table) → Valid c → Formed c t → Told c t → Verified c (notes_of t) →
-    notes_fault c t ≡ None
+VerifiedNotes = (c : Code) (t : Table) → Valid c → Formed c t → Told c t →
+    Verified c (notes_of t) → notes_fault c t ≡ None
