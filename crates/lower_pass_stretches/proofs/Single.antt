@@ -6,7 +6,7 @@ use Rattle.verse_code.specs.declared.codes.Code.{Code}
 use Rattle.verse_code.specs.declared.operations.Op.{Op}
 use Rattle.verse_sorts.specs.Sorts.{Sort}
 use Rattle.verse_verify_kept.specs.Notes.{Notes}
-use Rattle.verse_verify_kept.specs.Rules.{Asked, Sound}
+use Rattle.verse_verify_kept.specs.Rules.{Asked}
 use Rattle.lower_code.specs.Pieces as c
 use Rattle.lower_code.specs.Pieces.{Spot, Item, sure, Piece, Maker, behind, past}
 use Rattle.lower_code.proofs.Standing.{Here, Lie}

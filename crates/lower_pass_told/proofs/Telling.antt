@@ -3,20 +3,18 @@ use Rattle.std.proofs.Common.{◌≡◌, ℕ, length, map, List, [], ◌∷◌, 
 use Rattle.std.specs.Prelude.{option_map, slice_get}
 use Rattle.std.proofs.lemmas.Option.{none-some, same_Some}
 use Rattle.verse_base.proofs.Facts.{mapped_get}
-use Rattle.verse_code.specs.declared.operations.Op.{Op}
 use Rattle.verse_code.specs.declared.operations.Op.TheVariants as o
 use Rattle.verse_code.specs.declared.codes.Code.{Code}
 use Rattle.verse_verify_kept.specs.Notes.{Point, point_at}
 use Rattle.verse_verify_kept.proofs.Places.{same_in}
-use Rattle.verse_verify_faults.specs.Spots.{Mark, Spot, Table, live_spot, spot_at, even, cut}
+use Rattle.verse_verify_faults.specs.Spots.{Mark, Spot, Table, live_spot, spot_at, even}
 use Rattle.verse_verify_faults.specs.Faults.{tries_of}
 use Rattle.verse_verify_faults.proofs.Leading.{notes, point_there}
-use Rattle.verse_verify_laws.proofs.Holding.{Spotted, spotted}
-use Rattle.verse_verify_clean.specs.Laws.{Falling, Reached, reached_no, reached_so, Lasts, Within, Told}
+use Rattle.verse_verify_laws.proofs.Holding.{spotted}
+use Rattle.verse_verify_clean.specs.Laws.{Falling, Reached, reached_no, reached_so, Within, Told}
 use Rattle.verse_verify_clean.proofs.Holding.{bare_spot}
 use Rattle.lower_notes.specs.States.{State, spot_of, indices}
-use Rattle.lower_pass_states.proofs.Points.{Even, opened}
-use Rattle.lower_pass_states.proofs.Meeting.{Held, Opened, AllOpened, InBlock}
+use Rattle.lower_pass_states.proofs.Meeting.{Held, AllOpened}
 
 module _ (c : Code) (t : Table) (states : List (Option State)) (are : t.spots ≡ map (option_map spot_of) states)
     (held : (i : ℕ) (x : State) → slice_get states i ≡ Some (Some x) → Held c (notes c t) i x) where
