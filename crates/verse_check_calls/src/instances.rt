@@ -26,7 +26,7 @@ use verse_tree::exprs::Given;
 use verse_tree::fields::FieldList;
 use verse_tree::tables::{Ref, Ty};
 
-fn does_fit_field(facts: &Facts<'_>, class: u32, ty: &Ty, place: Option<u32>) -> bool
+fn does_fit_field(facts: &Facts<'_, '_>, class: u32, ty: &Ty, place: Option<u32>) -> bool
     ensures { result ≡ m.fits_field (facts_of facts.now) class (ty_of ty.now) place }
 {
     match place {
@@ -35,7 +35,7 @@ fn does_fit_field(facts: &Facts<'_>, class: u32, ty: &Ty, place: Option<u32>) ->
     }
 }
 
-fn does_fit_at(facts: &Facts<'_>, class: u32, ty: &Ty, place: u32) -> bool
+fn does_fit_at(facts: &Facts<'_, '_>, class: u32, ty: &Ty, place: u32) -> bool
     ensures { result ≡ m.fits_field (facts_of facts.now) class (ty_of ty.now) (Some place) }
 {
     match facts.field_at(class, place) {
@@ -45,7 +45,7 @@ fn does_fit_at(facts: &Facts<'_>, class: u32, ty: &Ty, place: u32) -> bool
 }
 
 /// Whether each value fits its field, where there is a field of its name.
-fn do_givens_fit(facts: &Facts<'_>, class: u32, parts: &[Given]) -> bool
+fn do_givens_fit(facts: &Facts<'_, '_>, class: u32, parts: &[Given]) -> bool
     ensures { result ≡ m.givens_fit (facts_of facts.now) class (givens (map given_of parts.now)) }
 {
     'parts: for part in parts {
@@ -59,7 +59,7 @@ fn do_givens_fit(facts: &Facts<'_>, class: u32, parts: &[Given]) -> bool
 }
 
 /// Whether each name is that of a field.
-fn are_fields(facts: &Facts<'_>, class: u32, parts: &[Given]) -> bool
+fn are_fields(facts: &Facts<'_, '_>, class: u32, parts: &[Given]) -> bool
     ensures { result ≡ m.are_fields (facts_of facts.now) class (givens (map given_of parts.now)) }
 {
     'parts: for part in parts {
@@ -80,7 +80,7 @@ fn add_place(places: &mut NumberSet, place: Option<u32>) -> Result<(), Memory>
 }
 
 /// The places of the fields that are given.
-fn places(facts: &Facts<'_>, class: u32, parts: &[Given]) -> Result<NumberSet, Memory>
+fn places(facts: &Facts<'_, '_>, class: u32, parts: &[Given]) -> Result<NumberSet, Memory>
     ensures { IfOk result (λ s. numbers_of s ≡ m.places_from (facts_of facts.now) class []
         (givens (map given_of parts.now))) }
 {
@@ -112,7 +112,7 @@ fn gives_all(given: &NumberSet, fields: &FieldList) -> bool
     are_all_given(given, fields.lacking())
 }
 
-fn has_all(facts: &Facts<'_>, class: u32, parts: &[Given]) -> Result<bool, Memory>
+fn has_all(facts: &Facts<'_, '_>, class: u32, parts: &[Given]) -> Result<bool, Memory>
     ensures { IfOk result (λ b. b ≡
         m.has_all (facts_of facts.now) class (givens (map given_of parts.now))) }
 {
@@ -123,7 +123,7 @@ fn has_all(facts: &Facts<'_>, class: u32, parts: &[Given]) -> Result<bool, Memor
     }
 }
 
-fn class_code(facts: &Facts<'_>, class: u32, parts: &[Given]) -> Result<Option<u16>, Memory>
+fn class_code(facts: &Facts<'_, '_>, class: u32, parts: &[Given]) -> Result<Option<u16>, Memory>
     ensures { IfOk result (λ c. c ≡
         cond (not (m.givens_fit (facts_of facts.now) class (givens (map given_of parts.now))))
         (Some TYPES_DIFFER) (cond (not (m.has_all (facts_of facts.now) class
@@ -144,7 +144,7 @@ fn class_code(facts: &Facts<'_>, class: u32, parts: &[Given]) -> Result<Option<u
 }
 
 fn instance_code(
-    facts: &Facts<'_>,
+    facts: &Facts<'_, '_>,
     what: Option<Ref>,
     parts: &[Given],
 ) -> Result<Option<u16>, Memory>
@@ -165,7 +165,7 @@ fn instance_code(
 }
 
 /// `c{F := E}`.
-pub fn instance(facts: &Facts<'_>, node: u32, parts: &[Given]) -> Result<Judged, Memory>
+pub fn instance(facts: &Facts<'_, '_>, node: u32, parts: &[Given]) -> Result<Judged, Memory>
     ensures { IfOk result (λ j. judged_of j ≡
         record {
           ty = rows.class_type (named_ref (facts_of facts.now) node);

@@ -42,7 +42,7 @@ fn place_of(what: Option<Ref>) -> Option<u32>
 }
 
 /// The place of the field of a class that has this name.
-pub fn field_by(facts: &Facts<'_>, class: u32, name: &[u8]) -> Option<u32>
+pub fn field_by(facts: &Facts<'_, '_>, class: u32, name: &[u8]) -> Option<u32>
     ensures { result ≡ m.field_by (facts_of facts.now) class name.now }
 {
     match facts.world.members.get(class as usize) {
@@ -51,7 +51,7 @@ pub fn field_by(facts: &Facts<'_>, class: u32, name: &[u8]) -> Option<u32>
     }
 }
 
-fn method_by(facts: &Facts<'_>, class: u32, name: &[u8]) -> Option<u32>
+fn method_by(facts: &Facts<'_, '_>, class: u32, name: &[u8]) -> Option<u32>
     ensures { result ≡ m.method_by (facts_of facts.now) class name.now }
 {
     match facts.world.members.get(class as usize) {
@@ -61,7 +61,7 @@ fn method_by(facts: &Facts<'_>, class: u32, name: &[u8]) -> Option<u32>
 }
 
 /// The field or the method of a class that has this name.
-fn class_member(facts: &Facts<'_>, class: u32, name: &[u8]) -> Option<Ref>
+fn class_member(facts: &Facts<'_, '_>, class: u32, name: &[u8]) -> Option<Ref>
     ensures { result ≡ m.class_member (facts_of facts.now) class name.now }
 {
     if let Some(place) = field_by(facts, class, name) {
@@ -74,7 +74,7 @@ fn class_member(facts: &Facts<'_>, class: u32, name: &[u8]) -> Option<Ref>
 }
 
 /// What a member refers to, by the type of its object.
-pub fn member_ref(facts: &Facts<'_>, object: &Ty, name: &[u8]) -> Result<Option<Ref>, Memory>
+pub fn member_ref(facts: &Facts<'_, '_>, object: &Ty, name: &[u8]) -> Result<Option<Ref>, Memory>
     ensures { IfOk result (λ p. p ≡ m.member_ref (facts_of facts.now) (ty_of object.now) name.now) }
 {
     match object {
@@ -83,7 +83,7 @@ pub fn member_ref(facts: &Facts<'_>, object: &Ty, name: &[u8]) -> Result<Option<
     }
 }
 
-fn by_ref(facts: &Facts<'_>, what: Option<Ref>) -> Result<Member, Memory>
+fn by_ref(facts: &Facts<'_, '_>, what: Option<Ref>) -> Result<Member, Memory>
     ensures { IfOk result (λ p. view p ≡ m.by_ref (facts_of facts.now) what) }
 {
     match what {
@@ -123,7 +123,7 @@ fn named_event(name: &[u8]) -> Member
     }
 }
 
-fn type_member(facts: &Facts<'_>, object: &Ty, name: &[u8]) -> Result<Member, Memory>
+fn type_member(facts: &Facts<'_, '_>, object: &Ty, name: &[u8]) -> Result<Member, Memory>
     ensures { IfOk result (λ p. view p ≡
         m.type_member (facts_of facts.now) (ty_of object.now) name.now) }
 {
@@ -138,7 +138,7 @@ fn type_member(facts: &Facts<'_>, object: &Ty, name: &[u8]) -> Result<Member, Me
     }
 }
 
-fn enum_member(facts: &Facts<'_>, of: u32, name: &[u8]) -> Member
+fn enum_member(facts: &Facts<'_, '_>, of: u32, name: &[u8]) -> Member
     ensures { view result ≡ m.enum_member (facts_of facts.now) of name.now }
 {
     if facts.is_value(of, name) {
@@ -148,7 +148,7 @@ fn enum_member(facts: &Facts<'_>, of: u32, name: &[u8]) -> Member
     }
 }
 
-fn member_of(facts: &Facts<'_>, object: &Expr, name: &[u8]) -> Result<Member, Memory>
+fn member_of(facts: &Facts<'_, '_>, object: &Expr, name: &[u8]) -> Result<Member, Memory>
     ensures { IfOk result (λ p. view p ≡
         m.member_of (facts_of facts.now)
         (ref_at (facts_of facts.now).refs (number_of_tree (tree_of object.now)))
@@ -187,7 +187,7 @@ fn judge_member(called: bool, member: Member) -> Judged
 
 /// `E.F`.
 pub fn member_form(
-    facts: &Facts<'_>,
+    facts: &Facts<'_, '_>,
     used: Used<'_>,
     object: &Expr,
     name: &[u8],
