@@ -327,46 +327,55 @@ module _ (p : Program) (found : rules.Found) (differ : ℕ → ℕ → Bool) (co
         (λ y k. let r = i y k in subst (Inside code notes F w ts al xs sc z) (sym r.1.1) (here r.0 r.1.0)))
         (λ y k. let r = i k.0 k.1.0 in (r.0, (r.1.0, k.1.1 ∙ ap (over (qd ∷ [])) r.1.1)))))
     shapes_pass (t.Shape.chained op.Add b d) n pl v u w ts al xs sc z x h here =
-        part.two_operands p found differ code notes declared fine w ts al xs sc z x here b d (trees_pass b (left b d u) w ts al xs sc z x h.0 here)
+        part.two_operands p found differ code notes declared fine w ts al xs sc z x here b d
+        (trees_pass b (left b d u) w ts al xs sc z x h.0 here)
         (λ e i. trees_pass d (right b d u) w ts al xs sc (up z) e h.1 i) (found.sort n)
         (λ e i. operators.sum_ends p found differ code notes declared fine w ts al xs sc z x here (found.sort (number_of b))
         (found.sort (number_of d)) (found.sort n) i (p.is_array n) pl h.2)
     shapes_pass (t.Shape.chained op.Sub b d) n pl v u w ts al xs sc z x h here =
-        part.two_operands p found differ code notes declared fine w ts al xs sc z x here b d (trees_pass b (left b d u) w ts al xs sc z x h.0 here)
+        part.two_operands p found differ code notes declared fine w ts al xs sc z x here b d
+        (trees_pass b (left b d u) w ts al xs sc z x h.0 here)
         (λ e i. trees_pass d (right b d u) w ts al xs sc (up z) e h.1 i) (found.sort n)
         (λ e i. operators.difference_ends p found differ code notes declared fine w ts al xs sc z x here (found.sort (number_of b))
         (found.sort (number_of d)) (found.sort n) i (p.is_array n) pl h.2)
     shapes_pass (t.Shape.chained op.Mul b d) n pl v u w ts al xs sc z x h here =
-        part.two_operands p found differ code notes declared fine w ts al xs sc z x here b d (trees_pass b (left b d u) w ts al xs sc z x h.0 here)
+        part.two_operands p found differ code notes declared fine w ts al xs sc z x here b d
+        (trees_pass b (left b d u) w ts al xs sc z x h.0 here)
         (λ e i. trees_pass d (right b d u) w ts al xs sc (up z) e h.1 i) (found.sort n)
         (λ e i. operators.product_ends p found differ code notes declared fine w ts al xs sc z x here (found.sort (number_of b))
         (found.sort (number_of d)) (found.sort n) i (p.is_array n) pl h.2)
     shapes_pass (t.Shape.compared y b d) n pl v u w ts al xs sc z x h here =
-        part.two_operands p found differ code notes declared fine w ts al xs sc z x here b d (trees_pass b (left b d u) w ts al xs sc z x h.0 here)
+        part.two_operands p found differ code notes declared fine w ts al xs sc z x here b d
+        (trees_pass b (left b d u) w ts al xs sc z x h.0 here)
         (λ e i. trees_pass d (right b d u) w ts al xs sc (up z) e h.1 i) (found.sort n)
         (λ e i. operators.comparison_ends p found differ code notes declared fine w ts al xs sc z x here (found.sort (number_of b))
         (found.sort (number_of d)) (found.sort n) i y h.2)
     shapes_pass (t.Shape.minus b) n pl v u w ts al xs sc z x h here =
-        part.one_operand p found differ code notes declared fine w ts al xs sc z x here b (trees_pass b u w ts al xs sc z x h.0 here) (found.sort n)
+        part.one_operand p found differ code notes declared fine w ts al xs sc z x here b (trees_pass b u w ts al xs sc z x h.0 here)
+        (found.sort n)
         (λ e i. operators.minus_ends p found differ code notes declared fine w ts al xs sc z x here (found.sort (number_of b))
         (found.sort n) i pl h.1)
     shapes_pass (t.Shape.query b) n pl v u w ts al xs sc z x h here =
-        part.one_operand p found differ code notes declared fine w ts al xs sc z x here b (trees_pass b u w ts al xs sc z x h.0 here) (found.sort n)
+        part.one_operand p found differ code notes declared fine w ts al xs sc z x here b (trees_pass b u w ts al xs sc z x h.0 here)
+        (found.sort n)
         (λ e i. operators.query_ends p found differ code notes declared fine w ts al xs sc z x here (found.sort (number_of b))
         (found.sort n) i h.1)
     -- members, calls, indices
     shapes_pass (t.Shape.member b y) n pl v u w ts al xs sc z x h here =
         member_goes p found differ code notes declared fine w ts al xs sc z x here (found.sort n) (enum_member p b y) h
-        (λ k. part.one_operand p found differ code notes declared fine w ts al xs sc z x here b (trees_pass b u w ts al xs sc z x k.0 here) (found.sort n)
+        (λ k. part.one_operand p found differ code notes declared fine w ts al xs sc z x here b
+        (trees_pass b u w ts al xs sc z x k.0 here) (found.sort n)
         (λ e g. member_ends p found differ code notes declared fine w ts al xs sc z x here (found.sort (number_of b)) (found.sort n) g
         (ref_at p n) y k.1))
     shapes_pass (t.Shape.index b bs) n pl v u w ts al xs sc z x h here =
         by_kind form.indexing (callee_of p b form.indexing pl) _ _ _ _ _ _ _ _ (callee_is p b form.indexing pl) h
         (λ f i k. part.named_call p found differ code notes declared fine w ts al xs sc z x here bs n f i
         (λ e qs g j. args_pass bs (rest_trees b bs u) w ts al xs sc (started f z) x k.0 e qs g j) k.1)
-        (λ f i k. part.member_call p found differ code notes declared fine w ts al xs sc z x here b bs n f i (object_passes b (first_tree b bs u) w ts al xs sc z x k.0 here)
+        (λ f i k. part.member_call p found differ code notes declared fine w ts al xs sc z x here b bs n f i
+        (object_passes b (first_tree b bs u) w ts al xs sc z x k.0 here)
         (λ e qs g j. args_pass bs (rest_trees b bs u) w ts al xs sc (up z) x k.1 e qs g j) k.2)
-        (λ f i k. part.index_passes p found differ code notes declared fine w ts al xs sc z x here b bs n f i (trees_pass b (first_tree b bs u) w ts al xs sc z x k.0.0 here) k.0.1
+        (λ f i k. part.index_passes p found differ code notes declared fine w ts al xs sc z x here b bs n f i
+        (trees_pass b (first_tree b bs u) w ts al xs sc z x k.0.0 here) k.0.1
         (λ e qs g j. indices_pass (found.sort (number_of b)) bs (rest_trees b bs u) w ts al xs sc (up z) x k.1
         (indices_fit p found code notes k.0.1) e qs g j) k.2)
         (λ f i k. quotient_passes bs (rest_trees b bs u) w ts al xs sc z x here n f i k)
@@ -374,9 +383,11 @@ module _ (p : Program) (found : rules.Found) (differ : ℕ → ℕ → Bool) (co
         by_kind (picked bs) (callee_of p b (picked bs) pl) _ _ _ _ _ _ _ _ (callee_is p b (picked bs) pl) h
         (λ f i k. part.named_call p found differ code notes declared fine w ts al xs sc z x here bs n f i
         (λ e qs g j. args_pass bs (rest_trees b bs u) w ts al xs sc (started f z) x k.0 e qs g j) k.1)
-        (λ f i k. part.member_call p found differ code notes declared fine w ts al xs sc z x here b bs n f i (object_passes b (first_tree b bs u) w ts al xs sc z x k.0 here)
+        (λ f i k. part.member_call p found differ code notes declared fine w ts al xs sc z x here b bs n f i
+        (object_passes b (first_tree b bs u) w ts al xs sc z x k.0 here)
         (λ e qs g j. args_pass bs (rest_trees b bs u) w ts al xs sc (up z) x k.1 e qs g j) k.2)
-        (λ f i k. part.one_operand p found differ code notes declared fine w ts al xs sc z x here b (trees_pass b (first_tree b bs u) w ts al xs sc z x k.0 here) (found.sort n)
+        (λ f i k. part.one_operand p found differ code notes declared fine w ts al xs sc z x here b
+        (trees_pass b (first_tree b bs u) w ts al xs sc z x k.0 here) (found.sort n)
         (λ e g. pick_ends p found differ code notes declared fine w ts al xs sc z x here (found.sort (number_of b)) (found.sort n) g f bs i
         k.1))
         (λ f i k. quotient_passes bs (rest_trees b bs u) w ts al xs sc z x here n f i k)
@@ -686,9 +697,11 @@ module _ (p : Program) (found : rules.Found) (differ : ℕ → ℕ → Bool) (co
         let v = inside (NodeStands p) m pl (t.Shape.call b bs) u in
         let none = form.picking None in
         by_kind none (spawned_callee (callee_of p b none pl)) _ _ _ _ _ _ _ _
-        (spawned_is none (callee_of p b none pl) (callee_is p b none pl)) h (λ f i k. part.named_call p found differ code notes declared fine w ts al xs sc z x here bs n f i
+        (spawned_is none (callee_of p b none pl) (callee_is p b none pl)) h
+        (λ f i k. part.named_call p found differ code notes declared fine w ts al xs sc z x here bs n f i
         (λ e qs g j. args_pass bs (rest_trees b bs v) w ts al xs sc (started f z) x k.0 e qs g j) k.1)
-        (λ f i k. part.member_call p found differ code notes declared fine w ts al xs sc z x here b bs n f i (object_passes b (first_tree b bs v) w ts al xs sc z x k.0 here)
+        (λ f i k. part.member_call p found differ code notes declared fine w ts al xs sc z x here b bs n f i
+        (object_passes b (first_tree b bs v) w ts al xs sc z x k.0 here)
         (λ e qs g j. args_pass bs (rest_trees b bs v) w ts al xs sc (up z) x k.1 e qs g j) k.2)
         (λ f i k. elim k [ ]) (λ f i k. elim k [ ])
     spawned_passes (tree m pl y) u w ts al xs sc z x here n h = elim h [ ]
@@ -758,7 +771,8 @@ module _ (p : Program) (found : rules.Found) (differ : ℕ → ℕ → Bool) (co
         (x : Option State) → FineAll p F true al xs bs → Here w ts al xs sc z x →
         Going code notes w ts x (lower.statements p differ bs sc z) (noting.statements p found differ bs sc z) itself
         (Settles code notes ts (left_sort bs) x)
-    block_passes no_trees u w ts al xs sc z x h here = weaker F code notes w ts al (part.unit_passes p found differ code notes declared fine w ts al xs sc z x here)
+    block_passes no_trees u w ts al xs sc z x h here = weaker F code notes w ts al
+        (part.unit_passes p found differ code notes declared fine w ts al xs sc z x here)
         (λ y k. value_settles code notes ts s.unit (λ v e. steady_of code notes (here v e)) y k)
     block_passes (more_trees b bs) u w ts al xs sc z x h here =
         let stated = statement_of b in
