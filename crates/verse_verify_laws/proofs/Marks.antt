@@ -77,7 +77,7 @@ under_even n [] e = omega arith
 under_even n (m ∷ ms) e = leb-true m.height n (and_parts _ _ e).0
 
 module _ (st : List Sort) (m : Mark) (ms : List Mark) (ev : even (length st) (m ∷ ms) ≡ true) where
-  length_beneath : length (beneath st (m ∷ ms)) ≡ m.height
+  pub length_beneath : length (beneath st (m ∷ ms)) ≡ m.height
   length_beneath = beneath_length st (m ∷ ms) ev
 
   room_less : room st ms ≡ room st (m ∷ ms) + room (beneath st (m ∷ ms)) ms
@@ -96,7 +96,7 @@ module _ (st : List Sort) (m : Mark) (ms : List Mark) (ev : even (length st) (m 
           sums : (n h b j : ℕ) → j ≤ h → h ≤ n → b ≡ h → n - j ≡ (n - h) + (b - j)
           sums n h b j u l e = omega (arith, u, l, e)
 
-  above_less : above st ms ≡ above st (m ∷ ms) ++ above (beneath st (m ∷ ms)) ms
+  pub above_less : above st ms ≡ above st (m ∷ ms) ++ above (beneath st (m ∷ ms)) ms
   above_less = subst (λ k. take k st ≡ above st (m ∷ ms) ++ above (beneath st (m ∷ ms)) ms) (sym room_less) (take_more
       (room st (m ∷ ms)) (room
       (beneath st (m ∷ ms)) ms) st)
@@ -106,7 +106,7 @@ module _ (st : List Sort) (m : Mark) (ms : List Mark) (ev : even (length st) (m 
       subst (λ k. drop k st ≡ beneath (beneath st (m ∷ ms)) ms) (sym room_less) (drop_more (room st (m ∷ ms)) (room
       (beneath st (m ∷ ms)) ms) st)
 
-  even_less : even (length st) ms ≡ true
+  pub even_less : even (length st) ms ≡ true
   even_less =
       even_more m.height (length st) ms (most (under ms) m.height (length st) (under_even m.height ms (and_parts _ _ ev).1)
       (leb-true m.height
@@ -115,7 +115,7 @@ module _ (st : List Sort) (m : Mark) (ms : List Mark) (ev : even (length st) (m 
       most : (a b d : ℕ) → a ≤ b → b ≤ d → a ≤ d
       most a b d l k = omega (arith, l, k)
 
-opens_less : (st : List Sort) (m : Mark) (ms : List Mark) → even (length st) (m ∷ ms) ≡ true →
+pub opens_less : (st : List Sort) (m : Mark) (ms : List Mark) → even (length st) (m ∷ ms) ≡ true →
     opens st ms ≡ opens (beneath st (m ∷ ms)) ms
 opens_less st m [] ev = refl
 opens_less st m (k ∷ ks) ev =

@@ -37,7 +37,7 @@ implied : (a b : Bool) → (not a || b) ≡ true → a ≡ true → b ≡ true
 implied true b e f = e
 implied false b e f = no_both (sym f)
 
-there_is : {A : Type 0} (xs : List A) (i : ℕ) (x d : A) → slice_get xs i ≡ Some x → (i < length xs) × (slice_index_or
+pub there_is : {A : Type 0} (xs : List A) (i : ℕ) (x d : A) → slice_get xs i ≡ Some x → (i < length xs) × (slice_index_or
     xs i d ≡ x)
 there_is [] i x d e = elim (none-some _ e) [ ]
 there_is (y ∷ xs) zero x d e = (positive (length xs), same_Some _ _ e)
@@ -49,7 +49,7 @@ there_is (y ∷ xs) (suc i) x d e = raised (there_is xs i x d e)
     raised : (i < length xs) × (slice_index_or xs i d ≡ x) → (suc i < suc (length xs)) × (slice_index_or xs i d ≡ x)
     raised r = (omega (arith, r.0), r.1)
 
-all_get : {A : Type 0} (P : A → Type 0) (xs : List A) (i : ℕ) (x : A) → All P xs → slice_get xs i ≡ Some x → P x
+pub all_get : {A : Type 0} (P : A → Type 0) (xs : List A) (i : ℕ) (x : A) → All P xs → slice_get xs i ≡ Some x → P x
 all_get P xs i x all e = let r = there_is xs i x x e in subst P r.1 (all i x r.0)
 
 module _ (c : Code) (t : Table) where
