@@ -42,6 +42,11 @@ module _ (code : Code) (notes : Notes) where
   inside_arm {y = y} waits q h = record {
     even = refl;
     names = refl;
+    stood = record {
+      tries = tt;
+      lasts = λ r e. let m = h.waits waits in record { func = m.func; noted = m.is_func; waits = m.holds };
+      within = λ e f. absurd (none-some e f);
+    };
     blocks = subst (λ k. Blocks code notes (pt (in_arm q y)) [] k [] y.locals) (sym (none 0)) (blocks_before ready_no);
     count = no_more;
     order = (omega arith, omega arith);

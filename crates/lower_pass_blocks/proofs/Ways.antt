@@ -102,6 +102,11 @@ module _ (found : rules.Found) (code : Code) (notes : Notes) (w : Way) (ts : Lis
           even = even_is z.stack z.tries (q ∷ y.stack) y.tries k t (even_over y h.even (q ∷ []));
           names = names_is z.tries y.tries z.outer y.outer t u ∙ h.names;
           ready = ready_none z.defers z.locals (pt z) d;
+          stood = let m = h.returns res result in record {
+            tries = h.stood.tries;
+            lasts = λ r e. absurd (none-some r (sym (g ∙ m.arm) ∙ e));
+            within = λ r e. absurd (none-some r (sym (b ∙ m.block) ∙ e));
+          };
         };
       }
         where

@@ -55,6 +55,7 @@ module _ (code : Code) (notes : Notes) where
         record {
           even = h.even;
           names = h.names;
+          stood = h.stood;
           blocks = blocks_moved code notes (record { func = refl; arm = refl; under = refl }) refl
               (blocks_with l r none h.blocks);
           count = h.count;

@@ -28,6 +28,7 @@ use Rattle.lower_pass_stretches.proofs.Names.{Sees}
 use Rattle.lower_pass_stretches.proofs.Going.{Way}
 use Rattle.lower_pass_stretches.proofs.Combined.{Led}
 use Rattle.lower_pass_stretches.proofs.Inside.{Inside, Blocks, blocks_before, ready_moved, ready_of}
+use Rattle.lower_pass_states.proofs.Meeting.{Opened}
 use Rattle.lower_pass_contexts.proofs.Contexts.{many_entries, noted_is}
 
 -- ---- two names that are new, in the other order
@@ -86,11 +87,12 @@ module _ (code : Code) (notes : Notes) {found : rules.Found} {w : Way} {ts : Lis
     {a : Around} {y : State} where
   -- in a Try that begins with the state, at whose label nothing is asked of the locals that are free
   pub inside_tried : (i : ℕ) → slice_get notes.points i ≡ Some (point_of (option_map spot_of (Some y))) →
-      ((l : ℕ) → length sc ≤ l → Quiet code notes l (i ∷ ts)) → Inside code notes found w ts al xs sc a y →
+      Opened code notes i → ((l : ℕ) → length sc ≤ l → Quiet code notes l (i ∷ ts)) → Inside code notes found w ts al xs sc a y →
       Inside code notes found w (i ∷ ts) (tried al) xs sc (enclosed a) (states.tried i y)
-  inside_tried i here quiet h = record {
+  inside_tried i here open_now quiet h = record {
     even = even_tried i y h.even;
     names = ap (λ zs. i ∷ zs) h.names;
+    stood = record { tries = (open_now, h.stood.tries); lasts = h.stood.lasts; within = h.stood.within };
     blocks = subst (λ k. Blocks code notes (pt (states.tried i y)) (i ∷ ts) k y.defers y.locals) (sym (none a.defers))
         (blocks_before (ready_moved code notes (i ∷ []) (record { func = refl; arm = refl; under = refl })
         (names_of (states.tried i y) ∙ ap (λ zs. i ∷ zs) (sym (names_of y)))

@@ -33,6 +33,7 @@ use Rattle.lower_pass_stretches.proofs.Going.{Way, If, itself, Going, Steady, th
 use Rattle.lower_pass_stretches.proofs.Single.{just_goes}
 use Rattle.lower_pass_stretches.proofs.Combined.{Led, if_map}
 use Rattle.lower_pass_stretches.proofs.Inside.{Inside, steady_of}
+use Rattle.lower_pass_contexts.proofs.Contexts.{opened_try}
 use Rattle.lower_pass_contexts.proofs.Scopes.{inside_with}
 use Rattle.lower_pass_contexts.proofs.After.{After, after_itself, after_bound}
 use Rattle.lower_pass_forms.proofs.Finishing.{steady_over}
@@ -256,7 +257,7 @@ module _ (found : rules.Found) (code : Code) (notes : Notes) (w : Way) (ts : Lis
         here = led.here;
         within = record { tries = refl; stack = refl; defers = refl };
         after = subst (After code notes 0 (turn y)) (sym (behind_try i (turn y))) (after_itself code notes (turn y));
-        inside = inside_tried code notes i led.here (λ z k. quiet_label code notes i label led h.inside z (fewer l k)) (inside_turn h);
+        inside = inside_tried code notes i led.here (opened_try code notes i label (inside_turn h).even h.inside.even led) (λ z k. quiet_label code notes i label led h.inside z (fewer l k)) (inside_turn h);
         outer = subst (Inside code notes found w ts al ys four_more a) (sym (behind_try i (turn y))) (inside_turn h);
         listed = more_listed other q (more_listed slot p h.listed);
       }

@@ -47,6 +47,7 @@ module _ (found : rules.Found) (code : Code) (notes : Notes) (w : Way) (ts : Lis
   inside_looped b out {y} h = record {
     even = h.even;
     names = h.names;
+    stood = h.stood;
     blocks = h.blocks;
     count = h.count;
     order = (most h.order, same a.defers);

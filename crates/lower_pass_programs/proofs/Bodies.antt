@@ -42,7 +42,7 @@ use Rattle.lower_notes.proofs.Counted as counted
 use Rattle.lower_notes.proofs.Counted.{code_then, walk_then}
 use Rattle.lower_notes.proofs.Forms.{trees}
 use Rattle.lower_pass_states.proofs.Points.{pt, over}
-use Rattle.lower_pass_states.proofs.Meeting.{no_value, Noted, AllSound, noted_point}
+use Rattle.lower_pass_states.proofs.Meeting.{no_value, Noted, AllSound, noted_point, stands_bare}
 use Rattle.lower_pass_stretches.proofs.Begins.{Starts, starts, tree_begins}
 use Rattle.lower_pass_stretches.proofs.Going.{Way, If, itself, behind_same, tables, everywhere, Lies, Steady, Going, then_goes}
 use Rattle.lower_pass_stretches.proofs.Going.{noted_first, noted_rest, all_more}
@@ -120,7 +120,12 @@ module _ (p : Program) (found : rules.Found) (differ : ℕ → ℕ → Bool) (fi
     left_is z h = ap (over (found.sort (number_of b.body) ∷ [])) (same_Some entry h.0 h.1.0) ∙ sym h.1.1
 
     steady : (z : State) → IsLeft z → Steady code notes [] z
-    steady z h = subst (Steady code notes []) (left_is z h) (record { even = refl; names = refl; ready = ready_no })
+    steady z h = subst (Steady code notes []) (left_is z h) (record {
+      even = refl;
+      names = refl;
+      ready = ready_no;
+      stood = stands_bare code notes g [] 0;
+    })
 
     returns : (z : State) → IsLeft z → (i : ℕ) → Asked code notes i (pt z) o.Return
     returns z h i = subst (λ u. Asked code notes i (pt u) o.Return) (left_is z h)

@@ -34,6 +34,7 @@ use Rattle.lower_simulation_runs.specs.Programs.{Defined, a_function, a_method, 
 use Rattle.lower_simulation_runs.proofs.Placing.{default_of}
 use Rattle.lower_sound.specs.Programs.{DefaultFound}
 use Rattle.lower_pass_states.proofs.Locals.{Blank}
+use Rattle.lower_pass_states.proofs.Meeting.{stands_bare}
 use Rattle.lower_pass_stretches.proofs.Names.{Sees, constant_named, sees_nothing, sees_own, sees_constant}
 use Rattle.lower_pass_stretches.proofs.Going.{Way}
 use Rattle.lower_pass_stretches.proofs.Inside.{Inside, blocks_before}
@@ -133,6 +134,7 @@ module _ (p : Program) (found : rules.Found) (differ : ℕ → ℕ → Bool) (fi
   entry_inside w g b k = record {
     even = refl;
     names = refl;
+    stood = stands_bare code notes g [] 0;
     blocks = blocks_before ready_no;
     count = refl;
     order = (omega arith, omega arith);

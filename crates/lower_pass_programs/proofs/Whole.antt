@@ -39,7 +39,7 @@ use Rattle.lower_simulation_runs.proofs.FirmForms.{piece_firm}
 use Rattle.lower_sound.specs.Programs.{ItemsFound}
 use Rattle.lower_sound.proofs.Whole.{defaults_found}
 use Rattle.lower_pass_states.proofs.Points.{pt}
-use Rattle.lower_pass_states.proofs.Meeting.{Noted, SoundAt, AllSound}
+use Rattle.lower_pass_states.proofs.Meeting.{Noted, SoundAt, AllSound, Held}
 use Rattle.lower_pass_stretches.proofs.Going.{tables, everywhere}
 use Rattle.lower_pass_programs.proofs.Numbers.{methods_many, among_get, body_in, body_placed, body_stands, fun_found}
 use Rattle.lower_pass_programs.proofs.Telling.{Told}
@@ -166,17 +166,16 @@ module _ (p : Program) (found : rules.Found) (differ : ℕ → ℕ → Bool) (fi
       (λ m. slice_get notes.points m ≡ Some (point_of (option_map spot_of x))) (sym (self i)) (noted_at i x e))
 
   sound_at : (xs : List (Option State)) (k i : ℕ) (x : State) → AllSound code notes k xs →
-      slice_get xs i ≡ Some (Some x) → Sound code notes (i + k) (pt x)
+      slice_get xs i ≡ Some (Some x) → Held code notes (i + k) x
   sound_at [] k i x h e = elim (none-some _ e) [ ]
-  sound_at (y ∷ xs) k zero x h e = subst (λ m. Sound code notes m (pt x)) (first k) (by y (same_Some _ _ e) h.0)
+  sound_at (y ∷ xs) k zero x h e = subst (λ m. Held code notes m x) (first k) (by y (same_Some _ _ e) h.0)
     where
       first : (k : ℕ) → k ≡ 0 + k
       first k = omega arith
 
-      by : (y : Option State) → y ≡ Some x → SoundAt code
-          notes k y → Sound code notes k (pt x)
+      by : (y : Option State) → y ≡ Some x → SoundAt code notes k y → Held code notes k x
       by y e h = subst (SoundAt code notes k) e h
-  sound_at (y ∷ xs) k (suc i) x h e = subst (λ m. Sound code notes m (pt x)) (later i k) (sound_at xs (suc k) i x h.1 e)
+  sound_at (y ∷ xs) k (suc i) x h e = subst (λ m. Held code notes m x) (later i k) (sound_at xs (suc k) i x h.1 e)
     where
       later : (i k : ℕ) → i + suc k ≡ suc i + k
       later i k = omega arith
@@ -249,6 +248,10 @@ module _ (p : Program) (found : rules.Found) (differ : ℕ → ℕ → Bool) (fi
           (λ i b e. subst (λ g. Known p found differ files g b) (sym (self i)) (known i b e))
           (λ i f e. ap (slice_get code.functions) (self i) ∙ e) whole_stands all_noted
 
+      -- each state that is noted, and where it stands
+      pub held_states : (i : ℕ) (x : State) → slice_get states i ≡ Some (Some x) → Held code notes i x
+      held_states i x e = subst (λ m. Held code notes m x) (self i) (sound_at states 0 i x passed.sound e)
+
       sound_points : (i : ℕ) (q : Point) → point_at notes i ≡ Some q → Sound code notes i q
       sound_points i q e =
           let x = mapped_get point_of (map (option_map spot_of) states) i (Some q)
@@ -256,7 +259,7 @@ module _ (p : Program) (found : rules.Found) (differ : ℕ → ℕ → Bool) (fi
           let z = mapped_get (option_map spot_of) states i x.0 x.1 in
           let y = some_state z.0 q (ap point_of z.2 ∙ x.2) in
           subst (λ m. Sound code notes m q) (self i) (subst (Sound code notes (i + 0)) y.1.1
-          (sound_at states 0 i y.0 passed.sound (z.1 ∙ ap (λ w. Some w) y.1.0)))
+          (sound_at states 0 i y.0 passed.sound (z.1 ∙ ap (λ w. Some w) y.1.0)).sound)
 
       -- the notes of the program fulfil the rules
       pub verified : Verified (code_of p differ files) (spots.notes_of (n.notes_of p found differ (code_of p differ files)))

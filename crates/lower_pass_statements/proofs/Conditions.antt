@@ -30,7 +30,7 @@ use Rattle.lower_notes.specs.Laws.{Beside}
 use Rattle.lower_notes.proofs.Counted as counted
 use Rattle.lower_notes.proofs.Counted.{code_then, walk_then}
 use Rattle.lower_pass_states.proofs.Points.{pt, Even, over, names_of, drop_none, gives_is}
-use Rattle.lower_pass_states.proofs.Meeting.{Meets, Each, entries}
+use Rattle.lower_pass_states.proofs.Meeting.{Meets, Each, Ground, entries}
 use Rattle.lower_pass_states.proofs.Locals.{Blank}
 use Rattle.lower_pass_states.proofs.Steps as step
 use Rattle.lower_pass_stretches.proofs.Names.{Sees}
@@ -70,6 +70,11 @@ module _ (code : Code) (notes : Notes) {found : rules.Found} {w : Way} {ts : Lis
   inside_behind sees blank longer room = record {
     even = even_is z.tries y.stack y.tries z.stack g.stack g.tries h.even;
     names = names_are ∙ h.names;
+    stood = subst (λ k. Ground code notes ts k z.arm z.block z.outer z.under) (sym g.func)
+        (subst (λ k. Ground code notes ts y.func k z.block z.outer z.under) (sym g.arm)
+        (subst (λ k. Ground code notes ts y.func y.arm k z.outer z.under) (sym g.block)
+        (subst (λ k. Ground code notes ts y.func y.arm y.block k z.under) (sym g.outer)
+        (subst (λ k. Ground code notes ts y.func y.arm y.block y.outer k) (sym g.under) h.stood))));
     blocks = subst (λ ds. Blocks code notes (pt z) ts (a.defers - a.base) ds z.locals) (sym g.since)
         (blocks_below code notes g.locals (blocks_moved code notes (record { func = sym g.func; arm = sym g.arm; under = sym g.under })
         (names_of z ∙ names_are ∙ sym (names_of y)) h.blocks));

@@ -97,11 +97,11 @@ module _ (found : rules.Found) (code : Code) (notes : Notes) (w : Way) (ts : Lis
     abbrev inner_walk : Walk
     inner_walk = walk_then g (walk_then (n.one (pops 1)) n.ends)
 
-    in_first : (i : ℕ) → If (option_map (in_block i) x) InBlock
-    in_first i = if_map code notes InBlock (in_block i) x (λ y e. inside_block code notes (here y e) i)
-
     noted_at : (i : ℕ) → BlockNoted code notes x i → (y : State) → x ≡ Some y → BlockNoted code notes (Some y) i
     noted_at i b y e = subst (λ z. BlockNoted code notes z i) e b
+
+    in_first : (i : ℕ) → BlockNoted code notes x i → If (option_map (in_block i) x) InBlock
+    in_first i b = if_map code notes InBlock (in_block i) x (λ y e. inside_block code notes (here y e) i (noted_at i b y e))
 
     -- the state of the block that a state defers
     block_is : (i : ℕ) (v : State) → option_map (in_block i) x ≡ Some v → (y : State) × ((x ≡ Some y) × (v ≡ in_block i y))
@@ -114,7 +114,7 @@ module _ (found : rules.Found) (code : Code) (notes : Notes) (w : Way) (ts : Lis
     ends_block : (i : ℕ) → BlockNoted code notes x i → {u : Option State} → If u (IsOver code notes [] (option_map (in_block i) x)) →
         Going code notes w ts u (c.one o.DeferEnd) n.ends itself (λ z. ⊥)
     ends_block i b above = ends_goes code notes (c.one o.DeferEnd) (λ s. o.DeferEnd) (λ s. refl)
-        (λ z e. let k = above z e in subst (Steady code notes ts) (sym k.1.1) (steady_of code notes (in_first i k.0 k.1.0)))
+        (λ z e. let k = above z e in subst (Steady code notes ts) (sym k.1.1) (steady_of code notes (in_first i b k.0 k.1.0)))
         (λ z e s. let k = above z e in let j = block_is i k.0 k.1.0 in
         subst (λ v. Asked code notes s.at (pt v) o.DeferEnd) (sym (k.1.1 ∙ j.1.1))
         (defer_end_asked code notes (here j.0 j.1.0) i s.at (noted_at i b j.0 j.1.0)))
@@ -122,8 +122,8 @@ module _ (found : rules.Found) (code : Code) (notes : Notes) (w : Way) (ts : Lis
     inner_goes : (i : ℕ) → BlockNoted code notes x i →
         Going code notes w ts (option_map (in_block i) x) inner_code inner_walk itself (λ z. ⊥)
     inner_goes i b =
-        let calm : If (option_map (in_block i) x) (Steady code notes ts) = λ z e. steady_of code notes (in_first i z e) in
-        then_goes code notes beside (block (option_map (in_block i) x) (in_first i)) (λ z h.
+        let calm : If (option_map (in_block i) x) (Steady code notes ts) = λ z e. steady_of code notes (in_first i b z e) in
+        then_goes code notes beside (block (option_map (in_block i) x) (in_first i b)) (λ z h.
         then_goes code notes counted.just (drop_goes code notes calm qb [] h) (λ v j. ends_block i b j))
 
     defers_block : Going code notes w ts x (c.ahead o.Defer inner_code) (n.ahead in_block deferred inner_walk) itself IsDeferred
