@@ -35,7 +35,7 @@ fn is_nothing(classes: &[ClassNote], sort: &Sort) -> bool
     ensures { result ≡ fit (classes_of classes.now) s.none (sort_of sort.now) }
 {
     match sort {
-        Sort::None | Sort::Any => true,
+        Sort::None => true,
         _ => false,
     }
 }

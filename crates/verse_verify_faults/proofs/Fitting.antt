@@ -73,7 +73,6 @@ module _ (cs : List ClassNote) where
 
   none_in : (b : Sort) → on_none b ≡ true → Fits up s.none b
   none_in s.none e = to_none
-  none_in s.any e = to_any
   none_in b e = no_both (sym e)
 
   any_in : (b : Sort) → on_any b ≡ true → Fits up s.any b

@@ -44,10 +44,9 @@ heir zero cs c d = eqn c d
 heir (suc k) cs c d = cond (eqn c d) true
     (on_parent (parent_in (slice_get cs c)) (λ b. heir k cs b d))
 
--- the second sort, where the first is of this form
+-- the second sort, where the first is of this form: a none or an any fits what it is
 abbrev pub on_none : Sort → Bool
 on_none none = true
-on_none any = true
 on_none b = false
 
 abbrev pub on_any : Sort → Bool

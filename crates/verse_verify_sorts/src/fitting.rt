@@ -19,8 +19,8 @@ pub fn does_fit(classes: &[ClassNote], sort: &Sort, other: &Sort) -> bool
     match (sort, other) {
         (Sort::Never, _) => true,
         (_, Sort::None) => true,
-        (_, Sort::Any) => true,
         (Sort::None, _) => false,
+        (_, Sort::Any) => true,
         (Sort::Unit, Sort::Unit) => true,
         (Sort::Unit, Sort::Span) => true,
         (Sort::Nil, Sort::Nil) => true,
