@@ -12,7 +12,7 @@ use Rattle.verse_code.specs.declared.operations.Op.TheVariants as o
 use Rattle.verse_value.specs.Val.{Val, enum}
 use Rattle.verse_names_declarations.specs.Names.{Table}
 use Rattle.verse_sorts.specs.Sorts as s
-use Rattle.verse_sorts.specs.Sorts.{Sort, Fits}
+use Rattle.verse_sorts.specs.Sorts.{Sort, IsKnown, Fits}
 use Rattle.verse_sorts.specs.Typing.{at}
 use Rattle.verse_sorts.proofs.Fitting.{fits_itself}
 use Rattle.verse_meaning_state.specs.Waits.{nth}
@@ -22,7 +22,7 @@ use Rattle.verse_sound_rules.specs.Found.{Allowed}
 use Rattle.verse_sound_rules.specs.Fine.{ArmFits, arm_fits, no_subject}
 use Rattle.verse_verify_kept.specs.Notes.{Notes, parent_of}
 use Rattle.verse_verify_kept.specs.Rules as r
-use Rattle.verse_verify_kept.specs.Rules.{AnyNever, first_never, later_never, IsRead, Asked, asked, no_local, To, TriesFit}
+use Rattle.verse_verify_kept.specs.Rules.{AnyNever, first_never, later_never, Asked, asked, no_local, To, TriesFit}
 use Rattle.lower_simulation_runs.specs.Programs.{is_some, has_value, has_value_shape}
 use Rattle.lower_code.specs.Pieces as c
 use Rattle.lower_code.specs.Pieces.{Spot, Piece, Maker, past, next}
@@ -266,7 +266,7 @@ module _ (p : Program) (found : rules.Found) (differ : ℕ → ℕ → Bool) (co
       weaker F code notes w ts al (step_goes code notes f op single [] steady (over_itself code notes) (b ∷ []) (gives 0 b)
       (λ y e. gives_is b y) (λ y e u m. asks y (steady y e).even u m)) (λ z k. (b, k))
 
-  get_goes : IsRead qs → (x : Option State) → If x Before → {u : Option State} → If u (Pushed x) →
+  get_goes : IsKnown qs → (x : Option State) → If x Before → {u : Option State} → If u (Pushed x) →
       Going code notes w ts u (c.one (o.Get l)) (n.one (gets l)) itself (Loaded x)
   get_goes read x before {u} above = just_goes code notes (c.one (o.Get l)) (λ i. o.Get l) (λ i. refl)
       (λ z e. calm z (above z e))
@@ -364,7 +364,7 @@ module _ (p : Program) (found : rules.Found) (differ : ℕ → ℕ → Bool) (co
               (steady_over code notes (qs ∷ k.0 ∷ []) (steady_of code notes (inside_held x before k.1.0 k.1.1.0)))
 
       -- one with a pattern, before others
-      tested_chooses : {f1 : Maker} {g1 : Walk} → IsRead qs → IsPattern code notes f1 g1 →
+      tested_chooses : {f1 : Maker} {g1 : Walk} → IsKnown qs → IsPattern code notes f1 g1 →
           Chooses (code_then f1 (code_then (c.one (o.Get l)) (c.either o.Same f h)))
           (walk_then g1 (walk_then (n.one (gets l)) (n.either_same g j)))
       tested_chooses read i = record {
@@ -372,7 +372,7 @@ module _ (p : Program) (found : rules.Found) (differ : ℕ → ℕ → Bool) (co
             then_goes code notes counted.just (get_goes read x before k) (λ u e. same_goes x before e));
       }
 
-    by_arm : {h : Maker} {j : Walk} (x : Shape) (last any : Bool) → IsRead qs →
+    by_arm : {h : Maker} {j : Walk} (x : Shape) (last any : Bool) → IsKnown qs →
         (last ≡ false → any ≡ false → IsPattern code notes (lower.pattern_op p differ x) (walks.pattern_walk p found differ x)) →
         (last ≡ false → Chooses h j) →
         Chooses (lower.arm_by p differ x l last any f h) (walks.arm_by p found differ x l last any g j)
@@ -382,7 +382,7 @@ module _ (p : Program) (found : rules.Found) (differ : ℕ → ℕ → Bool) (co
     by_arm x false false read i rest = tested_chooses (rest refl) read (i refl refl)
 
     -- one arm, and what comes behind it if it is not the last
-    pub arm_chooses : {h : Maker} {j : Walk} (b : Tree) (last : Bool) → IsRead qs → (last ≡ false → has_value p b ≡ true) →
+    pub arm_chooses : {h : Maker} {j : Walk} (b : Tree) (last : Bool) → IsKnown qs → (last ≡ false → has_value p b ≡ true) →
         (last ≡ false → Chooses h j) →
         Chooses (lower.arm_of p differ b l last f h) (walks.arm_of p found differ b l last g j)
     arm_chooses (tree n pl x) last read value rest = by_arm x last (is_any p differ x) read

@@ -10,7 +10,7 @@ use Rattle.verse_code.specs.declared.codes.Code.{Code}
 use Rattle.verse_code.specs.declared.operations.Op.TheVariants as o
 use Rattle.verse_names_declarations.specs.Names.{Table}
 use Rattle.verse_sorts.specs.Sorts as s
-use Rattle.verse_sorts.specs.Sorts.{Sort, Fits, FitAll, fit_more, to_none, from_never, fits_int, fits_span, fits_list, fits_map, fits_tuple}
+use Rattle.verse_sorts.specs.Sorts.{Sort, IsKnown, Fits, FitAll, fit_more, to_none, from_never, fits_int, fits_span, fits_list, fits_map, fits_tuple}
 use Rattle.verse_sorts.proofs.Fitting.{fits_on}
 use Rattle.verse_sorts_values.specs.Operands.{sorts}
 use Rattle.verse_meaning.specs.Programs.{Program}
@@ -22,7 +22,7 @@ use Rattle.verse_sound_rules.specs.Fine as fine
 use Rattle.verse_sound_rules.specs.Fine.{on_statement, stated_behind, defined_behind, generated_behind, Defines, Generates, TakesFrom}
 use Rattle.verse_sound_rules.specs.Fine.{takes_elements, takes_entries, takes_range, domain_list, domain_map, domain_never}
 use Rattle.verse_verify_kept.specs.Notes.{Notes, parent_of}
-use Rattle.verse_verify_kept.specs.Rules.{IsRead, Counted, never_counted, of_list, of_map, of_span, of_none}
+use Rattle.verse_verify_kept.specs.Rules.{Counted, never_counted, of_list, of_map, of_span, of_none}
 use Rattle.lower_code.specs.Pieces as c
 use Rattle.lower_code.specs.Pieces.{Maker}
 use Rattle.lower_code.specs.declared.arounds.Around.{Around}
@@ -229,7 +229,7 @@ module _ (p : Program) (found : rules.Found) (code : Code) (notes : Notes) where
 
     module _ (n : ℕ) (xs : Table) (sc : Scope) {inner rest : Maker} {part behind : Walk} (beside : Beside inner part) (qi : Sort)
         (fit : Fit qi (F.sort n)) (inner_goes : Part xs sc (qi ∷ []) inner part) where
-      pub constant_clause : (x : Bytes) → New x xs → F.is_var n ≡ false → IsRead (F.sort n) →
+      pub constant_clause : (x : Bytes) → New x xs → F.is_var n ≡ false → IsKnown (F.sort n) →
           Levels (xs ++ (x, ref.Local n) ∷ []) (constant_at x ∷ sc) rest behind →
           Levels xs sc (code_then inner (code_then (lower.bind (a_constant x) (length sc)) (code_then (c.one o.Drop) rest)))
           (walk_then part (walk_then (walks.bind (a_constant x) (length sc) (F.sort n)) (walk_then (stretch.one (pops 1)) behind)))
@@ -280,7 +280,7 @@ module _ (p : Program) (found : rules.Found) (code : Code) (notes : Notes) where
     -- what is shown of the parts of a clause, by what it is
     abbrev pub ClauseParts : ℕ → Table → Scope → (whole : Maker) → (all : Walk) → (inner : Maker) → (part : Walk) → Statement → Type 0
     ClauseParts n xs sc whole all inner part st = on_statement st ((q : Sort) × Part xs sc (q ∷ []) whole all)
-        (λ y. (q : Sort) × Part xs sc (q ∷ []) inner part × Fit q (F.sort n) × Defines p F y n xs × IsRead (F.sort n))
+        (λ y. (q : Sort) × Part xs sc (q ∷ []) inner part × Fit q (F.sort n) × Defines p F y n xs × IsKnown (F.sort n))
         (λ d. ⊥)
         (λ g. (ds : List Sort) × (d : Sort) × Operands g ds d × Part xs sc ds inner part × Generates p F n xs d g)
 

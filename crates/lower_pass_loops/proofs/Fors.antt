@@ -7,13 +7,13 @@ use Rattle.verse_code.specs.declared.codes.Code.{Code}
 use Rattle.verse_code.specs.declared.operations.Op.TheVariants as o
 use Rattle.verse_names_declarations.specs.Names.{Table}
 use Rattle.verse_sorts.specs.Sorts as s
-use Rattle.verse_sorts.specs.Sorts.{Sort, Fits}
+use Rattle.verse_sorts.specs.Sorts.{Sort, IsKnown, Fits}
 use Rattle.verse_sorts.specs.Typing.{at}
 use Rattle.verse_sorts.proofs.Fitting.{fits_itself}
 use Rattle.verse_sound_rules.specs.Found as rules
 use Rattle.verse_sound_rules.specs.Found.{Allowed, tried}
 use Rattle.verse_verify_kept.specs.Notes.{Notes, parent_of}
-use Rattle.verse_verify_kept.specs.Rules.{Quiet, IsRead, in_no}
+use Rattle.verse_verify_kept.specs.Rules.{Quiet, in_no}
 use Rattle.lower_code.specs.Pieces as c
 use Rattle.lower_code.specs.Pieces.{Maker}
 use Rattle.lower_code.specs.declared.arounds.Around.{Around}
@@ -125,7 +125,7 @@ module _ (found : rules.Found) (code : Code) (notes : Notes) (w : Way) (ts : Lis
         (λ z e s room m. let h = started z e in step.get_asked code notes z h.inside.even
         (meets_below code notes (after_below code notes h.after (fits_itself (parent_of notes) q))
         (subst (λ v. Meets code notes v (suc s.at)) (gives_is q h.before)
-        (subst (λ v. MeetsAt code notes (with_value q v (Some z)) (suc s.at)) h.is m))) l h.list (subst IsRead (sym is_list) tt)
+        (subst (λ v. MeetsAt code notes (with_value q v (Some z)) (suc s.at)) h.is m))) l h.list (subst IsKnown (sym is_list) tt)
         (fits_itself (parent_of notes) q))
         (λ z e s room. tt)
 

@@ -7,7 +7,7 @@ use Rattle.verse_tree.specs.Tree.{Bytes}
 use Rattle.verse_code.specs.declared.codes.Code.{Code}
 use Rattle.verse_names_declarations.specs.Names.{Table}
 use Rattle.verse_sorts.specs.Sorts as s
-use Rattle.verse_sorts.specs.Sorts.{Sort, Fits, from_never}
+use Rattle.verse_sorts.specs.Sorts.{Sort, IsKnown, Fits, from_never}
 use Rattle.verse_sorts.specs.Typing.{at, AllFit, fit_no, fit_so}
 use Rattle.verse_sorts.proofs.Fitting.{fits_itself, fits_on}
 use Rattle.verse_sorts_values.specs.Operands.{never_here, never_behind}
@@ -19,7 +19,6 @@ use Rattle.verse_sound_rules.specs.Found.{Allowed}
 use Rattle.verse_sound_rules.specs.Forms as takes
 use Rattle.verse_sound_rules.specs.Forms.{Gives, Takes}
 use Rattle.verse_verify_kept.specs.Notes.{Notes, parent_of}
-use Rattle.verse_verify_kept.specs.Rules.{IsRead}
 use Rattle.lower_code.specs.Pieces.{Maker}
 use Rattle.lower_code.specs.declared.arounds.Around.{Around}
 use Rattle.lower_code.specs.Scopes.{Scope, hidden}
@@ -113,7 +112,7 @@ module _ (found : rules.Found) (code : Code) (notes : Notes) (w : Way) (ts : Lis
             Going code notes w ts x k j (with_value q x) (λ z. Unit {0})
         weaker' h = weaker found code notes w ts al h (λ z k. tt)
 
-    pub constant_alone : IsRead q →
+    pub constant_alone : IsKnown q →
         Going code notes w ts x (code_then f (lower.bind (a_constant n) l)) (walk_then g (walks.bind (a_constant n) l q)) (with_value q x)
         (λ z. Unit {0})
     constant_alone read =

@@ -8,7 +8,7 @@ use Rattle.verse_code.specs.declared.codes.Code.{Code}
 use Rattle.verse_code.specs.declared.operations.Op.TheVariants as o
 use Rattle.verse_names_declarations.specs.Names.{Table}
 use Rattle.verse_sorts.specs.Sorts as s
-use Rattle.verse_sorts.specs.Sorts.{Sort, Fits}
+use Rattle.verse_sorts.specs.Sorts.{Sort, IsKnown, Fits}
 use Rattle.verse_sorts.proofs.Fitting.{all_fit_on}
 use Rattle.verse_sound_rules.specs.Found as rules
 use Rattle.verse_sound_rules.specs.Found.{Allowed}
@@ -17,7 +17,7 @@ use Rattle.verse_meaning.specs.Programs.{Program}
 use Rattle.verse_meaning.specs.Residuals.{no_name, a_constant, a_variable}
 use Rattle.verse_meaning.specs.Evaluating.{Statement, plain, defines, defers, generates, statement_of, statement_of_shape}
 use Rattle.verse_verify_kept.specs.Notes.{Notes, parent_of}
-use Rattle.verse_verify_kept.specs.Rules.{IsRead, Asked}
+use Rattle.verse_verify_kept.specs.Rules.{Asked}
 use Rattle.lower_code.specs.Pieces as c
 use Rattle.lower_code.specs.Pieces.{Maker}
 use Rattle.lower_code.specs.declared.arounds.Around.{Around}
@@ -248,7 +248,7 @@ module _ (found : rules.Found) (code : Code) (notes : Notes) (w : Way) (ts : Lis
     Parts (generates y) = ⊥
 
     -- one statement
-    pub states_go : (f : rules.Found) (differ : ℕ → ℕ → Bool) → IsRead (found.sort m) → Beside inner inner_walk → Begins inner_walk →
+    pub states_go : (f : rules.Found) (differ : ℕ → ℕ → Bool) → IsKnown (found.sort m) → Beside inner inner_walk → Begins inner_walk →
         (st : Statement) → Parts st → Going code notes w ts x (lower.stated p differ st sc whole inner)
         (noting.stated p f differ st (found.sort m) sc whole_walk inner_walk) itself
         (NextTo (one_deferred st) (found.sort m) (stated_behind st m xs) (scope_stated st sc) (around_stated p differ st a) x)

@@ -13,7 +13,7 @@ use Rattle.verse_code.specs.declared.codes.Code.{Code}
 use Rattle.verse_code.specs.declared.operations.Op.TheVariants as o
 use Rattle.verse_names_declarations.specs.Names.{Table}
 use Rattle.verse_sorts.specs.Sorts as s
-use Rattle.verse_sorts.specs.Sorts.{Sort, Fits, to_any}
+use Rattle.verse_sorts.specs.Sorts.{Sort, IsKnown, Fits, to_any}
 use Rattle.verse_sorts.proofs.Fitting.{fits_on}
 use Rattle.verse_meaning.specs.Programs.{Program, ref_at, fields_of, pieces}
 use Rattle.verse_meaning.specs.Residuals as form
@@ -31,7 +31,6 @@ use Rattle.verse_sound_rules.specs.Fine.{stated_behind, on_statement}
 use Rattle.verse_sound_rules.specs.Fine.{Defines}
 use Rattle.verse_sound_rules.specs.Programs.{FineFound}
 use Rattle.verse_verify_kept.specs.Notes.{Notes, parent_of}
-use Rattle.verse_verify_kept.specs.Rules.{IsRead}
 use Rattle.lower_code.specs.Pieces as c
 use Rattle.lower_code.specs.Pieces.{Maker}
 use Rattle.lower_code.specs.declared.arounds.Around.{Around}
@@ -100,7 +99,6 @@ use Rattle.lower_pass_trees.proofs.Ends.{by_kind, pick_ends, quotient_ends, retu
 
 module _ (p : Program) (found : rules.Found) (differ : ℕ → ℕ → Bool) (code : Code) (notes : Notes)
     (declared : Declared p found code notes) (fine : FineFound p (noted_found notes found))
-    (sorts_read : (m : ℕ) → IsRead (found.sort m)) (keys_read : (m : ℕ) → IsRead (found.key m))
     (same : (m n : ℕ) → differ m n ≡ false → Alike (found.sort m) (found.sort n))
     (classes : (n k : ℕ) → class_ref p (ref_at p n) ≡ Some k → IsClass p found code notes k)
     (defaults : (n k : ℕ) → class_ref p (ref_at p n) ≡ Some k → HaveDefaults p found code notes (fields_of p k)) where
@@ -253,17 +251,17 @@ module _ (p : Program) (found : rules.Found) (differ : ℕ → ℕ → Bool) (co
         (settled_lands code notes ts (left_sort bs) (found.sort n) (left_fits bs h.1))) (λ v k. tt)
     shapes_pass (t.Shape.definition y b) n pl v u w ts al xs sc z x h here =
         constant_alone F code notes w ts al xs sc z x here y (found.sort (number_of b)) (found.sort n) (beside.trees p found differ b sc z)
-        (defining_fits p F al xs h.1) (trees_pass b u w ts al xs sc z x h.0 here) (sorts_read n)
+        (defining_fits p F al xs h.1) (trees_pass b u w ts al xs sc z x h.0 here) (fine.known.sort n)
     shapes_pass (t.Shape.typed y wr b) n pl v u w ts al xs sc z x h here =
         constant_alone F code notes w ts al xs sc z x here y (found.sort (number_of b)) (found.sort n) (beside.trees p found differ b sc z)
-        (defining_fits p F al xs h.1) (trees_pass b (behind_type wr b u) w ts al xs sc z x h.0 here) (sorts_read n)
+        (defining_fits p F al xs h.1) (trees_pass b (behind_type wr b u) w ts al xs sc z x h.0 here) (fine.known.sort n)
     shapes_pass (t.Shape.variable y wr b) n pl v u w ts al xs sc z x h here =
         variable_alone F code notes w ts al xs sc z x here y (found.sort (number_of b)) (found.sort n) (beside.trees p found differ b sc z)
         (varying_fits p F al xs h.1) (trees_pass b (behind_type wr b u) w ts al xs sc z x h.0 here) pl
     shapes_pass (t.Shape.assignment m b d) n pl v u w ts al xs sc z x h here =
         let b2 = up (raised (target_operands b) z) in
         assignment_goes p found differ code notes declared fine w ts al xs sc z x here m b d n pl h.0.0 h.0.1 h.0.2
-        (λ e. inl (index_fails p F al xs b h.0.1 e)) (same (number_of b) (number_of d)) (sorts_read (number_of d))
+        (λ e. inl (index_fails p F al xs b h.0.1 e)) (same (number_of b) (number_of d)) (fine.known.sort (number_of d))
         (beside.targets p found differ b (base_of p b) sc z) (target_passes b (left b d u) w ts al xs sc z x h.0.0 h.0.1 here)
         (beside.trees p found differ d sc b2) (λ e i. trees_pass d (right b d u) w ts al xs sc b2 e h.1 i)
     shapes_pass (t.Shape.returned b) n pl v u w ts al xs sc z x h here =
@@ -408,9 +406,9 @@ module _ (p : Program) (found : rules.Found) (differ : ℕ → ℕ → Bool) (co
     shapes_pass t.Shape.falsehood n pl v u w ts al xs sc z x h here =
         operators.falsehood_goes p found differ code notes declared fine w ts al xs sc z x here (found.sort n) h
     shapes_pass t.Shape.this n pl v u w ts al xs sc z x h here =
-        operators.this_goes p found differ code notes declared fine w ts al xs sc z x here sorts_read keys_read (found.sort n) h.0 h.1 h.2
+        operators.this_goes p found differ code notes declared fine w ts al xs sc z x here (found.sort n) h.0 h.1 h.2
     shapes_pass (t.Shape.name y) n pl v u w ts al xs sc z x h here =
-        operators.name_goes p found differ code notes declared fine w ts al xs sc z x here sorts_read keys_read (found.sort n) h.0 y
+        operators.name_goes p found differ code notes declared fine w ts al xs sc z x here (found.sort n) h.0 y
         (ref_at p n) h.1 h.2
     -- values that are made
     shapes_pass (t.Shape.tuple bs) n pl v u w ts al xs sc z x h here =
@@ -427,7 +425,7 @@ module _ (p : Program) (found : rules.Found) (differ : ℕ → ℕ → Bool) (co
         (let k = map_fits p found code notes h.0.1 in
         pairs_pass ps u w ts al xs sc z x (key_in (found.sort n)) k.0 h.0.0 k.1 x [] here (over_itself code notes))
     shapes_pass (t.Shape.instance y gs) n pl v u w ts al xs sc z x h here =
-        instance_goes p found differ code notes fine sorts_read w ts al xs z x (class_ref p (ref_at p n)) h.0 (length sc) pl pl gs
+        instance_goes p found differ code notes fine w ts al xs z x (class_ref p (ref_at p n)) h.0 (length sc) pl pl gs
         (found.sort n) h.1 (classes n h.0 h.1) (defaults n h.0 h.1) h.3 (beside.givens p found differ gs sc z)
         (givens_pass gs u w ts al xs sc z (length sc) x h.2 [] x (given_sorts p F gs) refl
         (none_given F code notes w ts al xs z (length sc) x sc refl here))
@@ -574,21 +572,21 @@ module _ (p : Program) (found : rules.Found) (differ : ℕ → ℕ → Bool) (co
       (λ i e inside. trees_pass b u w (i ∷ ts) (rules.tried al) xs sc (enclosed z) e h.0 inside),
       h.1,
       h.2,
-      sorts_read n,
+      fine.known.sort n,
     )
     clause_parts (t.Shape.typed y wr b) n pl u w ts al z list given xs sc whole h = (
       found.sort (number_of b),
       (λ i e inside. trees_pass b (behind_type wr b u) w (i ∷ ts) (rules.tried al) xs sc (enclosed z) e h.0 inside),
       h.1,
       h.2,
-      sorts_read n,
+      fine.known.sort n,
     )
     clause_parts (t.Shape.variable y wr b) n pl u w ts al z list given xs sc whole h = (
       found.sort (number_of b),
       (λ i e inside. trees_pass b (behind_type wr b u) w (i ∷ ts) (rules.tried al) xs sc (enclosed z) e h.0 inside),
       h.1,
       h.2,
-      sorts_read n,
+      fine.known.sort n,
     )
     clause_parts (t.Shape.defer b) n pl u w ts al z list given xs sc whole h = h
     clause_parts (t.Shape.elements y b) n pl u w ts al z list given xs sc whole h = (
@@ -645,12 +643,12 @@ module _ (p : Program) (found : rules.Found) (differ : ℕ → ℕ → Bool) (co
         let a = inside (NodeStands p) m l (t.Shape.arm b d) (first_tree (tree m l (t.Shape.arm b d)) no_trees u) in
         arm_chooses p found differ code notes w ts al xs sc z (found.sort k) (found.sort n) (found.sort (number_of d)) h.0.1
         (beside.trees p found differ d (hidden ∷ sc) z)
-        (λ e i. trees_pass d (right b d a) w ts al xs (hidden ∷ sc) z e h.0.0 i) b true (sorts_read k) v.0 (λ e. absurd (cc))
+        (λ e i. trees_pass d (right b d a) w ts al xs (hidden ∷ sc) z e h.0.0 i) b true (fine.known.sort k) v.0 (λ e. absurd (cc))
     arms_pass k (more_trees (tree m l (t.Shape.arm b d)) (more_trees f bs)) v u w ts al xs sc z n h =
         let a = inside (NodeStands p) m l (t.Shape.arm b d) (first_tree (tree m l (t.Shape.arm b d)) (more_trees f bs) u) in
         arm_chooses p found differ code notes w ts al xs sc z (found.sort k) (found.sort n) (found.sort (number_of d)) h.0.1
         (beside.trees p found differ d (hidden ∷ sc) z)
-        (λ e i. trees_pass d (right b d a) w ts al xs (hidden ∷ sc) z e h.0.0 i) b false (sorts_read k) v.0
+        (λ e i. trees_pass d (right b d a) w ts al xs (hidden ∷ sc) z e h.0.0 i) b false (fine.known.sort k) v.0
         (λ i. arms_pass k (more_trees f bs) v.1 (rest_trees (tree m l (t.Shape.arm b d)) (more_trees f bs) u) w ts al xs sc z n h.1)
     arms_pass k (more_trees (tree m l y) bs) v u w ts al xs sc z n h = elim h.0 [ ]
 
@@ -722,7 +720,7 @@ module _ (p : Program) (found : rules.Found) (differ : ℕ → ℕ → Bool) (co
     stated_passes (tree n pl y) u m w ts al xs sc z x here h =
         states_go F code notes w ts al xs sc z x here p n (part_sort y) (lower.piece p differ (tree n pl y) sc z)
         (lower.inner_shape p differ y sc z) (noting.walk p found differ (tree n pl y) sc z) (noting.inner_shape p found differ y sc z)
-        found differ (sorts_read n) (beside.inner_shapes p found differ y sc z) (inner_shape_begins p found differ y sc z)
+        found differ (fine.known.sort n) (beside.inner_shapes p found differ y sc z) (inner_shape_begins p found differ y sc z)
         (statement_of_shape y pl)
         (statement_parts y n pl (inside (NodeStands p) n pl y u) m w ts al xs sc z x here
         (λ k. tree_goes code notes (found.sort n) (shapes_pass y n pl (own (NodeStands p) n pl y u) (inside (NodeStands p) n pl y u) w ts al

@@ -17,7 +17,7 @@ use Rattle.verse_value.specs.declared.modes.Mode.{Mode}
 use Rattle.verse_value.specs.declared.modes.Mode.TheVariants as mode
 use Rattle.verse_names_declarations.specs.Names.{Table}
 use Rattle.verse_sorts.specs.Sorts as s
-use Rattle.verse_sorts.specs.Sorts.{Sort, Fits, from_never}
+use Rattle.verse_sorts.specs.Sorts.{Sort, IsKnown, Fits, from_never}
 use Rattle.verse_sorts.specs.Typing.{at, AllFit, fit_no, fit_so}
 use Rattle.verse_sorts.proofs.Fitting.{fits_itself, fits_on}
 use Rattle.verse_sorts_values.specs.Operands as v
@@ -33,7 +33,7 @@ use Rattle.verse_sound_rules.specs.Fine.{FineTarget, sort_at, sorts_at, target_s
 use Rattle.verse_sound_rules.specs.Programs.{FineFound}
 use Rattle.verse_verify_kept.specs.Notes.{Notes, parent_of}
 use Rattle.verse_verify_kept.specs.Rules as r
-use Rattle.verse_verify_kept.specs.Rules.{Asked, IsRead, MayFail, Pops, Slot, AnyNever, first_never}
+use Rattle.verse_verify_kept.specs.Rules.{Asked, MayFail, Pops, Slot, AnyNever, first_never}
 use Rattle.lower_code.specs.Pieces as c
 use Rattle.lower_code.specs.Pieces.{Spot, Piece, Maker, past}
 use Rattle.lower_code.proofs.Standing.{rest_stands}
@@ -261,7 +261,7 @@ module _ (p : Program) (found : rules.Found) (code : Code) (notes : Notes) (w : 
     -- the value was put into a local, and is read from there
     module _ {u v : Option State} (k : ℕ) (inside : If v (Inside code notes G w ts al xs (hidden ∷ sc) a))
         (above : If u (IsOver code notes (qv ∷ os) v)) (known : If v (λ z. (y : State) × ((x ≡ Some y) × After code notes 0 y z)))
-        (kept : If v (λ z. at z.locals l ≡ Some qv)) (read : IsRead qv) (fit : Fit2 qv q) where
+        (kept : If v (λ z. at z.locals l ≡ Some qv)) (read : IsKnown qv) (fit : Fit2 qv q) where
       calm : If v (Steady code notes ts)
       calm y e = steady_of code notes (inside y e)
 
@@ -312,7 +312,7 @@ module _ (p : Program) (found : rules.Found) (code : Code) (notes : Notes) (w : 
     blank y e free = let h = here y e in let there = is_at y.locals l (within w.size (length y.locals) l free h.room) in
         there.1 ∙ ap Some (h.blank l there.0 (same l) there.1)
 
-    tail_goes : (u : Option State) (k : ℕ) → IsRead qv → Fit2 qv q →
+    tail_goes : (u : Option State) (k : ℕ) → IsKnown qv → Fit2 qv q →
         If u (IsAbove G code notes w ts al xs sc raised_os below here_below qv qv) →
         Going code notes w ts u (code_then (c.one (o.Store slot m number k)) (code_then (c.one o.Drop) (c.one (o.Get l))))
         (walk_then (n.one (gives (suc (suc m)) d)) (walk_then (n.one (pops 1)) n.last)) (with_value q x) (λ z. Unit {0})
@@ -328,7 +328,7 @@ module _ (p : Program) (found : rules.Found) (code : Code) (notes : Notes) (w : 
         (if_map code notes (λ z. at z.locals l ≡ Some qv) (bound l qv) x
         (λ y e. with_here l qv y.locals (within w.size (length y.locals) l free (here y e).room))) read fit
 
-    kept_goes : {u : Option State} (k : ℕ) → IsRead qv → Fit2 qv q → If u (IsOver code notes (qv ∷ os) x) →
+    kept_goes : {u : Option State} (k : ℕ) → IsKnown qv → Fit2 qv q → If u (IsOver code notes (qv ∷ os) x) →
         Going code notes w ts u (apply.storing (o.Store slot m number k) true l) (walks.storing true l (suc m) d qv) (with_value q x)
         (λ z. Unit {0})
     kept_goes k read fit above = then_goes code notes others.keeps
@@ -339,7 +339,7 @@ module _ (p : Program) (found : rules.Found) (code : Code) (notes : Notes) (w : 
         (λ z h. tail_goes z k read fit h)
 
     -- in either way
-    pub stores_go : {u : Option State} (b : Bool) (k : ℕ) → (b ≡ true → IsRead qv × Fit2 qv q) → (b ≡ false → (qv ≡ s.never) ⊎ Fit2 d q) →
+    pub stores_go : {u : Option State} (b : Bool) (k : ℕ) → (b ≡ true → IsKnown qv × Fit2 qv q) → (b ≡ false → (qv ≡ s.never) ⊎ Fit2 d q) →
         If u (IsOver code notes (qv ∷ os) x) →
         Going code notes w ts u (apply.storing (o.Store slot m number k) b l) (walks.storing b l (suc m) d qv) (with_value q x)
         (λ z. Unit {0})
@@ -365,7 +365,7 @@ module _ (p : Program) (found : rules.Found) (differ : ℕ → ℕ → Bool) (co
   pub assignment_goes : (m : Assign) (b d : Tree) (i : ℕ) (pl : Place) → FineTarget p H al xs b → Settled p H al xs b →
       Stores p H (mode_of m) (sort_at p H d) (sort_at p H b) (H.sort i) →
       (target_operands b ≢ 0 → (al.fails ≡ true) ⊎ (sort_at p H d ≡ s.never)) →
-      (differ (number_of b) (number_of d) ≡ false → Alike (sort_at p H b) (sort_at p H d)) → IsRead (sort_at p H d) →
+      (differ (number_of b) (number_of d) ≡ false → Alike (sort_at p H b) (sort_at p H d)) → IsKnown (sort_at p H d) →
       Beside (target_piece p differ b (base_of p b) sc a) (noting.target_walk p found differ b (base_of p b) sc a) →
       TargetOf p found differ code notes declared fine w ts al xs sc a x b →
       Beside (piece p differ d sc (up (raised (target_operands b) a)))

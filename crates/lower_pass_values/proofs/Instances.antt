@@ -12,7 +12,7 @@ use Rattle.verse_code.specs.declared.codes.Code.{Code}
 use Rattle.verse_code.specs.declared.operations.Op.TheVariants as o
 use Rattle.verse_names_declarations.specs.Names.{Table}
 use Rattle.verse_sorts.specs.Sorts as s
-use Rattle.verse_sorts.specs.Sorts.{Sort, Fits}
+use Rattle.verse_sorts.specs.Sorts.{Sort, IsKnown, Fits}
 use Rattle.verse_sorts.specs.Typing.{at, AllFit, fit_no, fit_so}
 use Rattle.verse_sorts.proofs.Fitting.{fits_itself, fits_on}
 use Rattle.verse_meaning.specs.Programs.{Program, same_name, fields_of, given_names}
@@ -25,7 +25,7 @@ use Rattle.verse_sound_rules.specs.Forms.{Takes, Gives, Filled, filled_no, fille
 use Rattle.verse_sound_rules.specs.Fine.{sort_at, given_sorts}
 use Rattle.verse_sound_rules.specs.Programs.{FineFound}
 use Rattle.verse_verify_kept.specs.Notes.{Notes, ClassNote, FuncNote, parent_of}
-use Rattle.verse_verify_kept.specs.Rules.{IsRead, MayCall}
+use Rattle.verse_verify_kept.specs.Rules.{MayCall}
 use Rattle.lower_code.specs.Pieces as c
 use Rattle.lower_code.specs.Pieces.{Spot, Maker}
 use Rattle.lower_code.specs.declared.arounds.Around.{Around}
@@ -218,7 +218,7 @@ pub record IsClass (p : Program) (found : rules.Found) (code : Code) (notes : No
   pub sorts : note.slots ≡ found.slots k
 
 module _ (p : Program) (found : rules.Found) (differ : ℕ → ℕ → Bool) (code : Code) (notes : Notes)
-    (fine : FineFound p (noted_found notes found)) (sorts_read : (m : ℕ) → IsRead (found.sort m)) where
+    (fine : FineFound p (noted_found notes found)) where
   abbrev F : rules.Found
   F = noted_found notes found
 
@@ -235,7 +235,7 @@ module _ (p : Program) (found : rules.Found) (differ : ℕ → ℕ → Bool) (co
     sort : Sort
     is : o ≡ Some local
     fits : Fit sort q
-    read : IsRead sort
+    read : IsKnown sort
     held : (ls : List Sort) → Holds l has ls → at ls local ≡ Some sort
 
   given_there : (y : Bytes) (gs : Givens) (l : ℕ) {taken : List Sort} (q : Sort) → Each (given_sorts p F gs) taken →
@@ -264,7 +264,7 @@ module _ (p : Program) (found : rules.Found) (differ : ℕ → ℕ → Bool) (co
         sort = sort_at p F b;
         is = refl;
         fits = subst (Fit (sort_at p F b)) (same_Some t q e) f;
-        read = sorts_read (number_of b);
+        read = fine.known.sort (number_of b);
         held = λ ls i. i.0;
       }
       by false more e = further (more e)

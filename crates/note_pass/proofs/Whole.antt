@@ -12,10 +12,10 @@ use Rattle.verse_meaning.specs.Programs.{Program, ref_at, fields_of, is_array_ty
 use Rattle.verse_meaning.specs.Evaluating.{class_ref}
 use Rattle.verse_sorts.specs.Sorts as s
 use Rattle.verse_sorts.specs.Sorts.{Sort}
-use Rattle.verse_sound_rules.specs.Found.{Found, IsKnown}
+use Rattle.verse_sound_rules.specs.Found.{Found}
 use Rattle.verse_sound_rules.specs.Programs.{FineFound}
 use Rattle.verse_verify_kept.specs.Notes.{Notes}
-use Rattle.verse_verify_kept.specs.Rules.{Verified, IsRead}
+use Rattle.verse_verify_kept.specs.Rules.{Verified}
 use Rattle.verse_verify_faults.specs.Spots as spots
 use Rattle.lower_code.specs.Programs.{code_of}
 use Rattle.lower_bounds.specs.Programs as bounds
@@ -48,11 +48,6 @@ use Rattle.note_pass.specs.Laws.{AcceptedNotesPass}
 use Rattle.note_pass.proofs.Types.{nodes_alike}
 use Rattle.note_pass.proofs.Telling as telling
 
--- what is known may be read
-read : (q : Sort) → IsKnown q → IsRead q
-read s.none h = h
-read q h = tt
-
 -- ---- a program of which all of this is told
 
 module _ (p : Program) (found : Found) (differ : ℕ → ℕ → Bool) (count : ℕ)
@@ -73,8 +68,7 @@ module _ (p : Program) (found : Found) (differ : ℕ → ℕ → Bool) (count : 
 
   trees : Knot p found differ count
   trees = trees_pass p found differ code notes (all_declared p found differ count numbers told)
-      (fine_noted p found differ count told fine) (λ m. read (found.sort m) (fine.known.sort m))
-      (λ m. read (found.key m) (fine.known.key m)) same classes defaults
+      (fine_noted p found differ count told fine) same classes defaults
 
   notes_pass : Verified code notes
   notes_pass = passed.verified p found differ count numbers nodes items told fine trees

@@ -9,29 +9,14 @@ use Rattle.verse_names_declarations.specs.Known.{known}
 use Rattle.verse_check_typing.specs.Members.{fields_of}
 use Rattle.verse_check_typing.specs.Loops.{index_of}
 use Rattle.verse_rules.specs.Sound.{completed}
-use Rattle.verse_sorts.specs.Sorts.{Sort}
+use Rattle.verse_sorts.specs.Sorts.{Sort, IsKnown}
 use Rattle.verse_sorts.specs.Typing.{at}
 use Rattle.verse_sorts_types.specs.SortOf.{sort_of}
-use Rattle.verse_sound_rules.specs.Found.{IsKnown, AllKnown}
+use Rattle.verse_sorts_types.proofs.Fitting.{sort_known}
+use Rattle.verse_sound_rules.specs.Found.{AllKnown}
 use Rattle.verse_accept_rows.specs.Found.{final}
 use Rattle.verse_accept_classes.specs.Owners.{owned}
 use Rattle.verse_accept_fine.specs.Sorted.{ty_at, made_sort, field_sort, class_in, signature_of, sorted}
-
-sort_known : (u : Ty) → IsKnown (sort_of u)
-sort_known ty.never = tt
-sort_known ty.nil = tt
-sort_known ty.void = tt
-sort_known ty.int = tt
-sort_known ty.logic = tt
-sort_known ty.char = tt
-sort_known (ty.enum e) = tt
-sort_known (ty.class c) = tt
-sort_known (ty.option u) = tt
-sort_known (ty.array u) = tt
-sort_known (ty.task u) = tt
-sort_known (ty.event u) = tt
-sort_known (ty.mapping k u) = tt
-sort_known (ty.tuple us) = tt
 
 each_known : {A : Type 0} (f : A → Sort) → ((x : A) → IsKnown (f x)) → (xs : List A) (i : ℕ) (q : Sort) →
     at (map f xs) i ≡ Some q → IsKnown q

@@ -8,7 +8,7 @@ use Rattle.verse_rules_types.specs.Types as t
 use Rattle.verse_rules_types.specs.Types.{Ty, Tys, Class}
 use Rattle.verse_rules_types.specs.Fitting.{fits, all_fit, is_same, all_same, first_above, above, parent_of, alone_fits}
 use Rattle.verse_sorts.specs.Sorts as s
-use Rattle.verse_sorts.specs.Sorts.{Inherits, itself, Fits, FitAll, to_any, from_never, fits_nil}
+use Rattle.verse_sorts.specs.Sorts.{IsKnown, Inherits, itself, Fits, FitAll, to_any, from_never, fits_nil}
 use Rattle.verse_sorts.specs.Sorts.{fits_int, fits_logic, fits_char, nil_logic, nil_opt, fits_enum}
 use Rattle.verse_sorts.specs.Sorts.{fits_obj, fits_event, fits_task, fits_opt, fits_list, fits_map, fits_tuple, fit_none, fit_more}
 use Rattle.verse_sorts_types.specs.SortOf.{sort_of, sorts_of}
@@ -61,6 +61,23 @@ mutual
   each_same (t.more_tys a as1) (t.more_tys b bs) h = more_same a b as1 bs (same a b (and_first _ _ h)) (each_same as1 bs (and_second _ _ h))
   each_same a b h = cc
 
+-- no sort of a type is that of a local of which nothing is known
+pub sort_known : (a : Ty) → IsKnown (sort_of a)
+sort_known t.never = tt
+sort_known t.nil = tt
+sort_known t.void = tt
+sort_known t.int = tt
+sort_known t.logic = tt
+sort_known t.char = tt
+sort_known (t.enum e) = tt
+sort_known (t.class c) = tt
+sort_known (t.option a) = tt
+sort_known (t.array a) = tt
+sort_known (t.task a) = tt
+sort_known (t.event a) = tt
+sort_known (t.mapping k a) = tt
+sort_known (t.tuple as1) = tt
+
 module _ (cs : List Class) where
   -- what is the same fits
   itself_fits : (a b : Ty) → Fits (parent_of cs) (sort_of a) (sort_of a) → is_same a b ≡ true → Fits (parent_of cs) (sort_of a) (sort_of b)
@@ -68,7 +85,7 @@ module _ (cs : List Class) where
 
   alone_sort : (a b : Ty) → Fits (parent_of cs) (sort_of a) (sort_of a) → alone_fits a b ≡ true →
       Fits (parent_of cs) (sort_of a) (sort_of b)
-  alone_sort a t.void f h = to_any
+  alone_sort a t.void f h = to_any (sort_known a)
   alone_sort a b f h = itself_fits a b f h
 
   mutual
@@ -77,25 +94,25 @@ module _ (cs : List Class) where
     fits_sort t.nil t.nil h = fits_nil
     fits_sort t.nil t.logic h = nil_logic
     fits_sort t.nil (t.option b) h = nil_opt
-    fits_sort t.nil t.void h = to_any
-    fits_sort t.void b h = alone_sort t.void b to_any h
+    fits_sort t.nil t.void h = to_any tt
+    fits_sort t.void b h = alone_sort t.void b (to_any tt) h
     fits_sort t.int b h = alone_sort t.int b fits_int h
     fits_sort t.logic b h = alone_sort t.logic b fits_logic h
     fits_sort t.char b h = alone_sort t.char b fits_char h
     fits_sort (t.enum e) b h = alone_sort (t.enum e) b fits_enum h
     fits_sort (t.event a) b h = alone_sort (t.event a) b fits_event h
     fits_sort (t.class c) (t.class d) h = fits_obj (climb cs (length cs) c d h)
-    fits_sort (t.class c) t.void h = to_any
+    fits_sort (t.class c) t.void h = to_any tt
     fits_sort (t.option a) (t.option b) h = fits_opt (fits_sort a b h)
-    fits_sort (t.option a) t.void h = to_any
+    fits_sort (t.option a) t.void h = to_any tt
     fits_sort (t.array a) (t.array b) h = fits_list (fits_sort a b h)
-    fits_sort (t.array a) t.void h = to_any
+    fits_sort (t.array a) t.void h = to_any tt
     fits_sort (t.task a) (t.task b) h = fits_task (fits_sort a b h)
-    fits_sort (t.task a) t.void h = to_any
+    fits_sort (t.task a) t.void h = to_any tt
     fits_sort (t.mapping k a) (t.mapping l b) h = fits_map (fits_sort k l (and_first _ _ h)) (fits_sort a b (and_second _ _ h))
-    fits_sort (t.mapping k a) t.void h = to_any
+    fits_sort (t.mapping k a) t.void h = to_any tt
     fits_sort (t.tuple a) (t.tuple b) h = fits_tuple (each_sort a b h)
-    fits_sort (t.tuple a) t.void h = to_any
+    fits_sort (t.tuple a) t.void h = to_any tt
     fits_sort a b h = cc
 
     each_sort : (a b : Tys) → all_fit cs a b ≡ true → FitAll (parent_of cs) (sorts_of a) (sorts_of b)

@@ -4,8 +4,7 @@ use Rattle.verse_tree.specs.Tree.{Bytes}
 use Rattle.verse_names_declarations.specs.Names.{Table, look}
 use Rattle.verse_meaning.specs.Programs.{same_name}
 use Rattle.verse_meaning.specs.Forms.{this_name}
-use Rattle.verse_sorts.specs.Sorts as s
-use Rattle.verse_sorts.specs.Sorts.{Sort}
+use Rattle.verse_sorts.specs.Sorts.{Sort, IsKnown}
 use Rattle.verse_sorts.specs.Typing.{at}
 
 -- a function or a method
@@ -32,11 +31,6 @@ pub record Found : Type 0 where
   pub slots : ℕ → List Sort
   -- by the number of a function
   pub signature : ℕ → Signature
-
--- not the sort of a local of which nothing is known
-abbrev pub IsKnown : Sort → Type 0
-IsKnown s.none = ⊥
-IsKnown q = Unit {0}
 
 -- each sort that is found is known
 pub record AllKnown (f : Found) : Type 0 where

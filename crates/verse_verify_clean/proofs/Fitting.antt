@@ -7,7 +7,7 @@ use Rattle.verse_meaning_state.specs.Waits.{eqn}
 use Rattle.verse_meaning_state.proofs.Numbers.{eqn_same}
 use Rattle.verse_code_machine_parents.proofs.Lists.{no_both}
 use Rattle.verse_sorts.specs.Sorts as s
-use Rattle.verse_sorts.specs.Sorts.{Sort, Sorts, Inherits, itself, above, Fits, FitAll, to_none, to_any, from_never, fits_unit, fits_nil}
+use Rattle.verse_sorts.specs.Sorts.{Sort, Sorts, IsKnown, Inherits, itself, above, Fits, FitAll, to_none, to_any, from_never, fits_unit, fits_nil}
 use Rattle.verse_sorts.specs.Sorts.{fits_int, fits_logic, fits_char, fits_span, nil_logic, nil_opt, int_span, unit_span, fits_enum}
 use Rattle.verse_sorts.specs.Sorts.{fits_obj, fits_var, fits_event, fits_task, fits_opt, fits_list, fits_map, fits_tuple, fit_none}
 use Rattle.verse_sorts.specs.Sorts.{fit_more, IsKey, key_never, key_nil, key_int, key_logic, key_char, key_enum, key_text}
@@ -74,25 +74,25 @@ module _ (cs : List ClassNote) where
   fits_none (s.map k a) = refl
   fits_none (s.tuple xs) = refl
 
-  fits_any : (a : Sort) → fit cs a s.any ≡ true
-  fits_any s.none = refl
-  fits_any s.any = refl
-  fits_any s.never = refl
-  fits_any s.unit = refl
-  fits_any s.nil = refl
-  fits_any s.int = refl
-  fits_any s.logic = refl
-  fits_any s.char = refl
-  fits_any s.span = refl
-  fits_any (s.enum e) = refl
-  fits_any (s.obj c) = refl
-  fits_any (s.var a) = refl
-  fits_any (s.event a) = refl
-  fits_any (s.task a) = refl
-  fits_any (s.opt a) = refl
-  fits_any (s.list a) = refl
-  fits_any (s.map k a) = refl
-  fits_any (s.tuple xs) = refl
+  fits_any : (a : Sort) → IsKnown a → fit cs a s.any ≡ true
+  fits_any s.none k = elim k [ ]
+  fits_any s.any k = refl
+  fits_any s.never k = refl
+  fits_any s.unit k = refl
+  fits_any s.nil k = refl
+  fits_any s.int k = refl
+  fits_any s.logic k = refl
+  fits_any s.char k = refl
+  fits_any s.span k = refl
+  fits_any (s.enum e) k = refl
+  fits_any (s.obj c) k = refl
+  fits_any (s.var a) k = refl
+  fits_any (s.event a) k = refl
+  fits_any (s.task a) k = refl
+  fits_any (s.opt a) k = refl
+  fits_any (s.list a) k = refl
+  fits_any (s.map l a) k = refl
+  fits_any (s.tuple xs) k = refl
 
   module _ (rank : ℕ → ℕ) (falls : (k b : ℕ) → up k ≡ Some b → rank b < rank k) (most : (k : ℕ) → rank k ≤ length cs) where
     heir_back : (k : ℕ) {c d : ℕ} → rank c ≤ k → Inherits up c d → heir k cs c d ≡ true
@@ -114,7 +114,7 @@ module _ (cs : List ClassNote) where
     mutual
       pub fit_back : {a b : Sort} → Fits up a b → fit cs a b ≡ true
       fit_back {a = a} to_none = fits_none a
-      fit_back {a = a} to_any = fits_any a
+      fit_back {a = a} (to_any k) = fits_any a k
       fit_back from_never = refl
       fit_back fits_unit = refl
       fit_back fits_nil = refl

@@ -48,24 +48,24 @@ module _ (c : Code) (t : Table) where
   module _ (told : Told c t) where
     pub holds_list : (xs : List Sort) (u b : Sort) → AllIn c N u xs → Fit c N (s.list u) b → holds t.classes (list_of xs) b ≡ true
     holds_list xs u b r to_none = refl
-    holds_list xs u b r to_any = refl
+    holds_list xs u b r (to_any l) = refl
     holds_list xs u b r (fits_list f) = all_fits c t told (all_on r f)
 
     holds_map : (ks xs : List Sort) (k u b : Sort) → AllIn c N k ks → AllIn c N u xs → Fit c N (s.map k u) b →
         holds t.classes (map_of ks xs) b ≡ true
     holds_map ks xs k u b r q to_none = refl
-    holds_map ks xs k u b r q to_any = refl
+    holds_map ks xs k u b r q (to_any l) = refl
     holds_map ks xs k u b r q (fits_map {l = l} {t = v} f g) =
         and_from (all_fit t.classes ks l) (all_fit t.classes xs v) (all_fits c t told (all_on r f)) (all_fits c t told (all_on q g))
 
     holds_var : (a u b : Sort) → Fit c N a u → Fit c N (s.var u) b → holds t.classes (var_of a) b ≡ true
     holds_var a u b f to_none = refl
-    holds_var a u b f to_any = refl
+    holds_var a u b f (to_any l) = refl
     holds_var a u b f fits_var = fits c t told f
 
     holds_event : (u b : Sort) → Fit c N (s.event u) b → holds t.classes event_of b ≡ true
     holds_event u b to_none = refl
-    holds_event u b to_any = refl
+    holds_event u b (to_any l) = refl
     holds_event u b fits_event = refl
 
     shown_back : (xs : List Sort) → r.Shown c N xs → step.all_shown t.classes xs ≡ true

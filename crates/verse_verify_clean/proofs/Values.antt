@@ -5,10 +5,9 @@ use Rattle.verse_code.specs.declared.operations.Op.{Op}
 use Rattle.verse_code.specs.declared.operations.Op.TheVariants as o
 use Rattle.verse_code.specs.declared.codes.Code.{Code}
 use Rattle.verse_sorts.specs.Sorts as s
-use Rattle.verse_sorts.specs.Sorts.{Sort}
+use Rattle.verse_sorts.specs.Sorts.{Sort, IsKnown}
 use Rattle.verse_verify_kept.specs.Notes.{Point, Notes}
 use Rattle.verse_verify_kept.specs.Rules as r
-use Rattle.verse_verify_kept.specs.Rules.{IsRead}
 use Rattle.verse_verify_faults.specs.Spots.{Spot, Table, above, cut}
 use Rattle.verse_verify_faults.specs.Stepping as step
 use Rattle.verse_verify_faults.specs.Stepping.{Goes, readable}
@@ -18,10 +17,10 @@ use Rattle.verse_verify_clean.proofs.Leading.{SuitAll, suit_no, suit_so, pushed_
 use Rattle.verse_verify_clean.proofs.Steps.{Here, evenly, led, needed, there, popped, two_ints}
 use Rattle.verse_verify_clean.proofs.Holding.{fails_back}
 
-pub readable_back : (m : Option Sort) (a : Sort) → m ≡ Some a → IsRead a → readable m ≡ Some a
+pub readable_back : (m : Option Sort) (a : Sort) → m ≡ Some a → IsKnown a → readable m ≡ Some a
 readable_back m a e h = subst (λ m. readable m ≡ Some a) (sym e) (by_sort a h)
   where
-    by_sort : (a : Sort) → IsRead a → readable (Some a) ≡ Some a
+    by_sort : (a : Sort) → IsKnown a → readable (Some a) ≡ Some a
     by_sort s.none h = elim h [ ]
     by_sort a h = refl
 

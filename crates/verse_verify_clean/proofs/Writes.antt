@@ -10,11 +10,11 @@ use Rattle.verse_code.specs.declared.codes.Code.{Code}
 use Rattle.verse_code_machine.specs.Frames.{put, behind}
 use Rattle.verse_code_machine_parents.proofs.Lists.{no_both}
 use Rattle.verse_sorts.specs.Sorts as s
-use Rattle.verse_sorts.specs.Sorts.{Sort, from_never, fits_int, fits_list, fits_span, int_span, unit_span}
+use Rattle.verse_sorts.specs.Sorts.{Sort, IsKnown, from_never, fits_int, fits_list, fits_span, int_span, unit_span}
 use Rattle.verse_sorts.specs.Typing.{at, fit_so}
 use Rattle.verse_verify_kept.specs.Notes.{Point, Notes, names}
 use Rattle.verse_verify_kept.specs.Rules as r
-use Rattle.verse_verify_kept.specs.Rules.{Fit, IsRead, in_no, in_so}
+use Rattle.verse_verify_kept.specs.Rules.{Fit, in_no, in_so}
 use Rattle.verse_verify_faults.specs.Fitting.{is_never, any_never}
 use Rattle.verse_verify_faults.specs.Spots.{Spot, Table, above, cut}
 use Rattle.verse_verify_faults.specs.Stepping as step
@@ -107,7 +107,7 @@ module _ (c : Code) (t : Table) (told : Told c t) where
   -- what Take writes
   record Taken (a v k : Sort) (m : ℕ) (x : Sort) : Type 0 where
     pub is : step.taken t.classes a ≡ Some (record { value = v; beside = k; far = m; last = x })
-    pub read : IsRead a
+    pub read : IsKnown a
 
   domain_back : {a v k x : Sort} {m : ℕ} → r.Domain c (notes c t) a v k m x → (a ≡ s.never → ⊥) → Taken a v k m x
   domain_back r.of_list full = record { is = refl; read = tt }
@@ -118,11 +118,11 @@ module _ (c : Code) (t : Table) (told : Told c t) where
   domain_back (r.of_span int_span) full = record { is = refl; read = tt }
   domain_back (r.of_span unit_span) full = record { is = refl; read = tt }
 
-  int_read : {b : Sort} → Fit c (notes c t) b s.int → IsRead b
+  int_read : {b : Sort} → Fit c (notes c t) b s.int → IsKnown b
   int_read from_never = tt
   int_read fits_int = tt
 
-  list_read : {b u : Sort} → Fit c (notes c t) b (s.list u) → IsRead b
+  list_read : {b u : Sort} → Fit c (notes c t) b (s.list u) → IsKnown b
   list_read from_never = tt
   list_read (fits_list f) = tt
 

@@ -77,19 +77,19 @@ module _ (cs : List ClassNote) where
 
   any_in : (b : Sort) → on_any b ≡ true → Fits up s.any b
   any_in s.none e = to_none
-  any_in s.any e = to_any
+  any_in s.any e = to_any tt
   any_in b e = no_both (sym e)
 
   unit_in : (b : Sort) → on_unit b ≡ true → Fits up s.unit b
   unit_in s.none e = to_none
-  unit_in s.any e = to_any
+  unit_in s.any e = to_any tt
   unit_in s.unit e = fits_unit
   unit_in s.span e = unit_span
   unit_in b e = no_both (sym e)
 
   nil_in : (b : Sort) → on_nil b ≡ true → Fits up s.nil b
   nil_in s.none e = to_none
-  nil_in s.any e = to_any
+  nil_in s.any e = to_any tt
   nil_in s.nil e = fits_nil
   nil_in s.logic e = nil_logic
   nil_in (s.opt b) e = nil_opt
@@ -97,75 +97,75 @@ module _ (cs : List ClassNote) where
 
   int_in : (b : Sort) → on_int b ≡ true → Fits up s.int b
   int_in s.none e = to_none
-  int_in s.any e = to_any
+  int_in s.any e = to_any tt
   int_in s.int e = fits_int
   int_in s.span e = int_span
   int_in b e = no_both (sym e)
 
   logic_in : (b : Sort) → on_logic b ≡ true → Fits up s.logic b
   logic_in s.none e = to_none
-  logic_in s.any e = to_any
+  logic_in s.any e = to_any tt
   logic_in s.logic e = fits_logic
   logic_in b e = no_both (sym e)
 
   char_in : (b : Sort) → on_char b ≡ true → Fits up s.char b
   char_in s.none e = to_none
-  char_in s.any e = to_any
+  char_in s.any e = to_any tt
   char_in s.char e = fits_char
   char_in b e = no_both (sym e)
 
   span_in : (b : Sort) → on_span b ≡ true → Fits up s.span b
   span_in s.none e = to_none
-  span_in s.any e = to_any
+  span_in s.any e = to_any tt
   span_in s.span e = fits_span
   span_in b e = no_both (sym e)
 
   enum_in : (d : ℕ) (b : Sort) → on_enum b (λ e. eqn d e) ≡ true → Fits up (s.enum d) b
   enum_in d s.none e = to_none
-  enum_in d s.any e = to_any
+  enum_in d s.any e = to_any tt
   enum_in d (s.enum f) e = subst (λ f. Fits up (s.enum d) (s.enum f)) (eqn_is d f e) fits_enum
   enum_in d b e = no_both (sym e)
 
   obj_in : (c : ℕ) (b : Sort) → on_obj b (λ d. heir (length cs) cs c d) ≡ true → Fits up (s.obj c) b
   obj_in c s.none e = to_none
-  obj_in c s.any e = to_any
+  obj_in c s.any e = to_any tt
   obj_in c (s.obj d) e = fits_obj (heir_is (length cs) c d e)
   obj_in c b e = no_both (sym e)
 
   var_in : (a b : Sort) → on_var b (λ b. same a b) ≡ true → Fits up (s.var a) b
   var_in a s.none e = to_none
-  var_in a s.any e = to_any
+  var_in a s.any e = to_any tt
   var_in a (s.var b) e = subst (λ b. Fits up (s.var a) (s.var b)) (same_is a b e) fits_var
   var_in a b e = no_both (sym e)
 
   event_in : (a b : Sort) → on_event b (λ b. same a b) ≡ true → Fits up (s.event a) b
   event_in a s.none e = to_none
-  event_in a s.any e = to_any
+  event_in a s.any e = to_any tt
   event_in a (s.event b) e = subst (λ b. Fits up (s.event a) (s.event b)) (same_is a b e) fits_event
   event_in a b e = no_both (sym e)
 
   task_in : (a b : Sort) → ((d : Sort) → fit cs a d ≡ true → Fits up a d) → on_task b (λ b. fit cs a b) ≡ true → Fits up (s.task a) b
   task_in a s.none go e = to_none
-  task_in a s.any go e = to_any
+  task_in a s.any go e = to_any tt
   task_in a (s.task b) go e = fits_task (go b e)
   task_in a b go e = no_both (sym e)
 
   opt_in : (a b : Sort) → ((d : Sort) → fit cs a d ≡ true → Fits up a d) → on_opt b (λ b. fit cs a b) ≡ true → Fits up (s.opt a) b
   opt_in a s.none go e = to_none
-  opt_in a s.any go e = to_any
+  opt_in a s.any go e = to_any tt
   opt_in a (s.opt b) go e = fits_opt (go b e)
   opt_in a b go e = no_both (sym e)
 
   list_in : (a b : Sort) → ((d : Sort) → fit cs a d ≡ true → Fits up a d) → on_list b (λ b. fit cs a b) ≡ true → Fits up (s.list a) b
   list_in a s.none go e = to_none
-  list_in a s.any go e = to_any
+  list_in a s.any go e = to_any tt
   list_in a (s.list b) go e = fits_list (go b e)
   list_in a b go e = no_both (sym e)
 
   map_in : (k a b : Sort) → ((d : Sort) → fit cs k d ≡ true → Fits up k d) → ((d : Sort) → fit cs a d ≡ true → Fits up a d) →
       on_map b (λ l b. fit cs k l && fit cs a b) ≡ true → Fits up (s.map k a) b
   map_in k a s.none go on e = to_none
-  map_in k a s.any go on e = to_any
+  map_in k a s.any go on e = to_any tt
   map_in k a (s.map l b) go on e =
       fits_map (go l (and_parts (fit cs k l) (fit cs a b) e).0) (on b (and_parts (fit cs k l) (fit cs a b) e).1)
   map_in k a b go on e = no_both (sym e)
@@ -173,7 +173,7 @@ module _ (cs : List ClassNote) where
   tuple_in : (xs : Sorts) (b : Sort) → ((ys : Sorts) → fit_each cs xs ys ≡ true → FitAll up xs ys) →
       on_tuple b (λ ys. fit_each cs xs ys) ≡ true → Fits up (s.tuple xs) b
   tuple_in xs s.none go e = to_none
-  tuple_in xs s.any go e = to_any
+  tuple_in xs s.any go e = to_any tt
   tuple_in xs (s.tuple ys) go e = fits_tuple (go ys e)
   tuple_in xs b go e = no_both (sym e)
 

@@ -70,9 +70,9 @@ module _ (c : Code) (t : Table) where
       (all_in xs b (and_parts (fit t.classes a b) (all_fit
       t.classes xs b) e).1)
 
-  pub in_any : (xs : List Sort) → AllIn c notes s.any xs
-  in_any [] = in_no
-  in_any (a ∷ xs) = in_so to_any (in_any xs)
+  pub in_none : (xs : List Sort) → AllIn c notes s.none xs
+  in_none [] = in_no
+  in_none (a ∷ xs) = in_so to_none (in_none xs)
 
   -- a sort that holds what an operation made
   pub data Becomes : Made → Sort → Type 0 where
@@ -93,15 +93,15 @@ module _ (c : Code) (t : Table) where
     pub fits : Fit c notes sort b
 
   list_holds : (xs : List Sort) (b : Sort) → on_list b (λ d. all_fit t.classes xs d) ≡ true → Holds (list_of xs) b
-  list_holds xs s.none e = record { sort = s.list s.any; becomes = a_list (in_any xs); fits = to_none }
-  list_holds xs s.any e = record { sort = s.list s.any; becomes = a_list (in_any xs); fits = to_any }
+  list_holds xs s.none e = record { sort = s.list s.none; becomes = a_list (in_none xs); fits = to_none }
+  list_holds xs s.any e = record { sort = s.list s.none; becomes = a_list (in_none xs); fits = to_any tt }
   list_holds xs (s.list d) e = record { sort = s.list d; becomes = a_list (all_in xs d e); fits = fits_itself (parent_of notes) (s.list d) }
   list_holds xs b e = no_both (sym e)
 
   map_holds : (ks xs : List Sort) (b : Sort) → on_map b (λ k d. all_fit t.classes ks k && all_fit t.classes xs d) ≡ true →
       Holds (map_of ks xs) b
-  map_holds ks xs s.none e = record { sort = s.map s.any s.any; becomes = a_map (in_any ks) (in_any xs); fits = to_none }
-  map_holds ks xs s.any e = record { sort = s.map s.any s.any; becomes = a_map (in_any ks) (in_any xs); fits = to_any }
+  map_holds ks xs s.none e = record { sort = s.map s.none s.none; becomes = a_map (in_none ks) (in_none xs); fits = to_none }
+  map_holds ks xs s.any e = record { sort = s.map s.none s.none; becomes = a_map (in_none ks) (in_none xs); fits = to_any tt }
   map_holds ks xs (s.map k d) e = record {
     sort = s.map k d;
     becomes =
@@ -114,7 +114,7 @@ module _ (c : Code) (t : Table) where
 
   var_holds : (a b : Sort) → on_var b (λ d. fit t.classes a d) ≡ true → Holds (var_of a) b
   var_holds a s.none e = record { sort = s.var a; becomes = a_var (fits_itself (parent_of notes) a); fits = to_none }
-  var_holds a s.any e = record { sort = s.var a; becomes = a_var (fits_itself (parent_of notes) a); fits = to_any }
+  var_holds a s.any e = record { sort = s.var a; becomes = a_var (fits_itself (parent_of notes) a); fits = to_any tt }
   var_holds a (s.var d) e = record {
     sort = s.var d;
     becomes = a_var (fit_is t.classes a d e);
@@ -124,7 +124,7 @@ module _ (c : Code) (t : Table) where
 
   event_holds : (b : Sort) → on_event b (λ d. true) ≡ true → Holds event_of b
   event_holds s.none e = record { sort = s.event s.any; becomes = an_event; fits = to_none }
-  event_holds s.any e = record { sort = s.event s.any; becomes = an_event; fits = to_any }
+  event_holds s.any e = record { sort = s.event s.any; becomes = an_event; fits = to_any tt }
   event_holds (s.event d) e = record { sort = s.event d; becomes = an_event; fits = fits_itself (parent_of notes) (s.event d) }
   event_holds b e = no_both (sym e)
 

@@ -10,7 +10,7 @@ use Rattle.verse_code.specs.declared.operations.Op.TheVariants as o
 use Rattle.verse_code.specs.declared.codes.Code.{Code}
 use Rattle.verse_code_machine_parents.proofs.Lists.{no_both}
 use Rattle.verse_sorts.specs.Sorts as s
-use Rattle.verse_sorts.specs.Sorts.{Sort, Sorts, Fits, IsKey, from_never, fits_list}
+use Rattle.verse_sorts.specs.Sorts.{Sort, IsKnown, Sorts, Fits, IsKey, from_never, fits_list}
 use Rattle.verse_sorts.specs.Typing.{at}
 use Rattle.verse_verify_kept.specs.Notes.{ClassNote}
 use Rattle.verse_verify_kept.specs.Rules as r
@@ -20,7 +20,7 @@ use Rattle.verse_verify_kept.specs.Rules.{shown_text, Queried, of_option, of_log
 use Rattle.verse_verify_kept.specs.Rules.{in_map, in_never, Path}
 use Rattle.verse_verify_kept.specs.Rules.{path_no, path_so, Counted, list_counted, map_counted, never_counted, Slot}
 use Rattle.verse_verify_kept.specs.Rules.{slot_var, slot_obj, slot_never}
-use Rattle.verse_verify_kept.specs.Rules.{Mode, mode_set, mode_int, mode_list, mode_never, IsRead, MayFail, sorts}
+use Rattle.verse_verify_kept.specs.Rules.{Mode, mode_set, mode_int, mode_list, mode_never, MayFail, sorts}
 use Rattle.verse_verify_kept.specs.Rules.{at_sort}
 use Rattle.verse_verify_faults.specs.Fitting.{fit, is_key}
 use Rattle.verse_verify_faults.specs.Spots.{Spot, Table, above, even, cut}
@@ -51,7 +51,7 @@ pops_length (r.pops_so {n = n} {xs = xs} {ys = ys} q) = later n (length xs) (len
 -- a local that may be read
 pub record Readable (m : Option Sort) (a : Sort) : Type 0 where
   pub is : m ≡ Some a
-  pub read : IsRead a
+  pub read : IsKnown a
 
 pub readable_is : (m : Option Sort) (a : Sort) → readable m ≡ Some a → Readable m a
 readable_is None a e = elim (none-some _ e) [ ]

@@ -8,7 +8,7 @@ use Rattle.verse_code.specs.declared.operations.Op.{Op}
 use Rattle.verse_code.specs.declared.operations.Op.TheVariants as o
 use Rattle.verse_code.specs.declared.codes.Code.{Code}
 use Rattle.verse_sorts.specs.Sorts as s
-use Rattle.verse_sorts.specs.Sorts.{Sort, Sorts, Fits, IsKey, from_never, fits_list}
+use Rattle.verse_sorts.specs.Sorts.{Sort, IsKnown, Sorts, Fits, IsKey, from_never, fits_list}
 use Rattle.verse_verify_kept.specs.Rules as r
 use Rattle.verse_verify_kept.specs.Rules.{Fit, To, Pops, Passes, AllIn, in_no, in_so, Keyed, keyed_no, keyed_so, Shown}
 use Rattle.verse_verify_kept.specs.Rules.{shown_no, shown_int, shown_char}
@@ -16,7 +16,7 @@ use Rattle.verse_verify_kept.specs.Rules.{shown_text, Queried, of_option, of_log
 use Rattle.verse_verify_kept.specs.Rules.{in_map, in_never, Path}
 use Rattle.verse_verify_kept.specs.Rules.{path_no, path_so, Counted, list_counted, map_counted, never_counted, Slot}
 use Rattle.verse_verify_kept.specs.Rules.{slot_var, slot_obj, slot_never}
-use Rattle.verse_verify_kept.specs.Rules.{Mode, mode_set, mode_int, mode_list, mode_never, IsRead, MayFail, sorts}
+use Rattle.verse_verify_kept.specs.Rules.{Mode, mode_set, mode_int, mode_list, mode_never, MayFail, sorts}
 use Rattle.verse_verify_kept.specs.Rules.{at_sort}
 use Rattle.verse_verify_faults.specs.Spots.{Spot, Table, above, even, cut}
 use Rattle.verse_verify_faults.specs.Stepping.{is, list_of, map_of, var_of, event_of, goes_on}
