@@ -306,7 +306,7 @@ module _ (is : List ItemTree) (arrays events : ℕ → Bool) where
         }
 
     void_fits : (u : Ty) → fits (all_classes is) ty.void u ≡ true → Fits (up is) s.unit (sort_of u)
-    void_fits ty.void h = s.to_any
+    void_fits ty.void h = s.to_any tt
     void_fits u h = absurd (cc)
 
     pub unit_returned : (v : Written) → At is w a xs n p t.Shape.returned_unit → a.owner.result ≡ Some v →
@@ -327,7 +327,7 @@ module _ (is : List ItemTree) (arrays events : ℕ → Bool) where
 
     pub loop_fits : (e : Tree) → At is w a xs n p (t.Shape.loop_form e) → has_number n F.left ≡ true →
         Fits (up is) s.unit (sort_of (ty_at is n))
-    loop_fits e h left = of_row is n s.unit ty.void (its_row is w a xs n p (t.Shape.loop_form e) h ∙ ap loop_type left) s.to_any
+    loop_fits e h left = of_row is n s.unit ty.void (its_row is w a xs n p (t.Shape.loop_form e) h ∙ ap loop_type left) (s.to_any tt)
 
     -- ---- groups and waits
 

@@ -202,7 +202,7 @@ module _ (is : List ItemTree) (arrays events : ℕ → Bool) where
         given = s.unit;
         operands = one_operand is arrays events ts ty.string (counted types.print g) (fit types.print g);
         takes = takes.takes_line;
-        value = of_row is n s.unit ty.void (row types.print g) s.to_any;
+        value = of_row is n s.unit ty.void (row types.print g) (s.to_any tt);
       }
 
       round_gives : (x : Form) → NoCase x → takes.Takes whole found b xs x (s.int ∷ s.int ∷ []) s.int → ty_at is n ≡ ty.int →
@@ -268,8 +268,8 @@ module _ (is : List ItemTree) (arrays events : ℕ → Bool) where
         given = s.unit;
         operands = fit_so (subst (λ z. Fits (up is) z (s.event s.any)) (sym same) (fits_itself (up is) (s.event s.any)))
             (no_operands is arrays events ts one);
-        takes = takes.takes_bare_signal k s.to_any;
-        value = of_row is n s.unit ty.void r s.to_any;
+        takes = takes.takes_bare_signal k (s.to_any tt);
+        value = of_row is n s.unit ty.void r (s.to_any tt);
       }
       signal_by u one f k same r = record {
         no_case = tt;
@@ -278,7 +278,7 @@ module _ (is : List ItemTree) (arrays events : ℕ → Bool) where
         operands = fit_so (subst (λ z. Fits (up is) z (s.event (sort_of u))) (sym same) (fits_itself (up is) (s.event (sort_of u))))
             (one_operand is arrays events ts u one f);
         takes = takes.takes_signal k;
-        value = of_row is n s.unit ty.void r s.to_any;
+        value = of_row is n s.unit ty.void r (s.to_any tt);
       }
 
       -- ---- elements of tuples

@@ -74,7 +74,7 @@ module _ (is : List ItemTree) (arrays events : ℕ → Bool) (w : World) (a : Ar
 
   -- unit is of what is void
   void_fits : ty_at is n ≡ ty.void → Fits (up is) s.unit own
-  void_fits r = of_row is n s.unit ty.void r s.to_any
+  void_fits r = of_row is n s.unit ty.void r (s.to_any tt)
 
   pub defer_fits : (e : Tree) → Is (t.Shape.defer e) → Fits (up is) s.unit own
   defer_fits e h = void_fits (its_row is w a xs n p (t.Shape.defer e) h)
@@ -117,7 +117,7 @@ module _ (is : List ItemTree) (arrays events : ℕ → Bool) (w : World) (a : Ar
   pub if_fits : (ts : Trees) (e : Tree) → Is (t.Shape.if_alone ts e) → Fits (up is) (part e) own × Fits (up is) s.unit own
   if_fits ts e h =
       let r : ty_at is n ≡ ty.void = its_row is w a xs n p (t.Shape.if_alone ts e) h in
-      (of_row is n (part e) ty.void r s.to_any, void_fits r)
+      (of_row is n (part e) ty.void r (s.to_any (fitting.sort_known (type_of F e))), void_fits r)
 
   pub negation_fits : (e : Tree) → Is (t.Shape.negation e) → (b.fails ≡ true) × Fits (up is) s.unit own
   negation_fits e h = (
