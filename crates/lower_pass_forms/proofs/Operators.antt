@@ -70,8 +70,8 @@ module _ (p : Program) (found : rules.Found) (differ : ℕ → ℕ → Bool) (co
     steady : If x (Steady code notes ts)
     steady y e = steady_of code notes (here y e)
 
-    pub value_up : {z : Option State} (q : Sort) → If z (IsValue code notes q x) → If z (Here (up a))
-    value_up q i z e = let k = i z e in subst (Here (up a)) (sym k.1.1) (inside_up code notes q (here k.0 k.1.0))
+    pub value_up : {z : Option State} (q : Sort) → IsKnown q → If z (IsValue code notes q x) → If z (Here (up a))
+    value_up q known i z e = let k = i z e in subst (Here (up a)) (sym k.1.1) (inside_up code notes q known (here k.0 k.1.0))
 
     -- ---- one and two operands
 
@@ -80,12 +80,12 @@ module _ (p : Program) (found : rules.Found) (differ : ℕ → ℕ → Bool) (co
         Form q (code_then f h) (walk_then g j)
     one_then qa q beside first rest = then_goes code notes beside first rest
 
-    pub two_then : {f k h : Maker} {g l j : Walk} (qa qb q : Sort) → Beside f g → Beside k l →
+    pub two_then : {f k h : Maker} {g l j : Walk} (qa qb q : Sort) → IsKnown qa → Beside f g → Beside k l →
         Going code notes w ts x f g itself (IsValue code notes qa x) →
         ((z : Option State) → If z (Here (up a)) → Going code notes w ts z k l itself (IsValue code notes qb z)) →
         ((u : Option State) → If u (IsOver code notes (qb ∷ qa ∷ []) x) → Going code notes w ts u h j (with_value q x) (λ z. Unit {0})) →
         Form q (code_then f (code_then k h)) (walk_then g (walk_then l j))
-    two_then qa qb q b1 b2 first second rest = then_goes code notes b1 first (λ z i. then_goes code notes b2 (second z (value_up qa i))
+    two_then qa qb q known b1 b2 first second rest = then_goes code notes b1 first (λ z i. then_goes code notes b2 (second z (value_up qa known i))
         (λ u k. rest u (λ v e. let r = k v e in let t = i r.0 r.1.0 in
         (t.0, (t.1.0, r.1.1 ∙ ap (over (qb ∷ [])) t.1.1)))))
 

@@ -198,16 +198,16 @@ module _ (p : Program) (found : rules.Found) (code : Code) (notes : Notes) where
           (λ ls h g. constant_more x n new v ls h g) (λ ls h g. hidden_more s.none ls g) beside inner_goes beside_rest rest_goes
 
     -- both ends of a range
-    pub ends_part : (xs : Table) (sc : Scope) (b e : Sort) {f h : Maker} {g j : Walk} → Beside f g →
+    pub ends_part : (xs : Table) (sc : Scope) (b e : Sort) → IsKnown b → {f h : Maker} {g j : Walk} → Beside f g →
         ((i : ℕ) (z : Option State) → If z (Inside code notes F w (i ∷ ts) (tried al) xs sc (enclosed a)) →
         Going code notes w (i ∷ ts) z f g itself (IsValue code notes b z)) →
         ((i : ℕ) (z : Option State) → If z (Inside code notes F w (i ∷ ts) (tried al) xs sc (up (enclosed a))) →
         Going code notes w (i ∷ ts) z h j itself (IsValue code notes e z)) →
         Part xs sc (e ∷ b ∷ []) (code_then f h) (walk_then g j)
-    ends_part xs sc b e beside first second i u inside = then_goes code notes beside (first i u inside) (λ v low.
+    ends_part xs sc b e known beside first second i u inside = then_goes code notes beside (first i u inside) (λ v low.
         weaker F code notes w (i ∷ ts) (tried al)
         (second i v (λ z k. let r = low z k in subst (Inside code notes F w (i ∷ ts) (tried al) xs sc (up (enclosed a))) (sym r.1.1)
-        (inside_up code notes b (inside r.0 r.1.0))))
+        (inside_up code notes b known (inside r.0 r.1.0))))
         (λ z k. let r = low k.0 k.1.0 in (r.0, (r.1.0, k.1.1 ∙ ap (over (e ∷ [])) r.1.1))))
 
     -- ---- definitions

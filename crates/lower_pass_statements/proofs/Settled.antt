@@ -4,7 +4,7 @@ use Rattle.std.proofs.Common.{subst, ap, arith}
 use Rattle.verse_code.specs.declared.codes.Code.{Code}
 use Rattle.verse_code.specs.declared.operations.Op.TheVariants as o
 use Rattle.verse_names_declarations.specs.Names.{Table}
-use Rattle.verse_sorts.specs.Sorts.{Sort, Fits}
+use Rattle.verse_sorts.specs.Sorts.{Sort, IsKnown, Fits}
 use Rattle.verse_sound_rules.specs.Found as rules
 use Rattle.verse_sound_rules.specs.Found.{Allowed}
 use Rattle.verse_verify_kept.specs.Notes.{Notes, parent_of}
@@ -57,7 +57,7 @@ module _ (code : Code) (notes : Notes) (ts : List ℕ) where
 
 module _ (found : rules.Found) (code : Code) (notes : Notes) (w : Way) (ts : List ℕ) (al : Allowed) (xs : Table) (sc : Scope) (a : Around)
     (x : Option State) (here : If x (Inside code notes found w ts al xs sc a)) (k : ℕ) (q : Sort) (ys : Table) (sc2 : Scope)
-    (a2 : Around) (base : a2.base ≡ a.base) (many : a2.defers ≡ k + a.defers) where
+    (a2 : Around) (known : IsKnown q) (base : a2.base ≡ a.base) (many : a2.defers ≡ k + a.defers) where
   abbrev Behind : State → Type 0
   Behind z = Next found code notes w ts al k q ys sc2 a2 x z
 
@@ -75,7 +75,7 @@ module _ (found : rules.Found) (code : Code) (notes : Notes) (w : Way) (ts : Lis
     high = omega (arith, many)
 
     inside : Inside code notes found w ts al ys sc2 (arounds.up a2) (over (q ∷ []) h.state)
-    inside = inside_up code notes q h.inside
+    inside = inside_up code notes q known h.inside
 
     all_left : left_with a.defers (over (q ∷ []) h.state) ≡ over (q ∷ []) (left_behind k h.state)
     all_left = ap (λ j. left_behind j (over (q ∷ []) h.state)) (count h.state.under (length h.state.defers) a.defers a2.defers k

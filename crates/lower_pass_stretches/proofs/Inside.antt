@@ -5,7 +5,7 @@ use Rattle.std.specs.Prelude.{slice_get}
 use Rattle.std.proofs.lemmas.List.{append_assoc}
 use Rattle.verse_code.specs.declared.codes.Code.{Code}
 use Rattle.verse_names_declarations.specs.Names.{Table}
-use Rattle.verse_sorts.specs.Sorts.{Sort, to_any}
+use Rattle.verse_sorts.specs.Sorts.{Sort, IsKnown, to_any}
 use Rattle.verse_sorts.specs.Typing.{AllFit, fit_so}
 use Rattle.verse_sorts.proofs.Fitting.{all_fit_on}
 use Rattle.verse_sound_rules.specs.Found as rules
@@ -152,9 +152,9 @@ module _ (code : Code) (notes : Notes) where
       stood = h.stood;
     }
 
-    -- above one more operand
-    pub inside_up : (q : Sort) → Inside found w ts al xs sc a y → Inside found w ts al xs sc (up a) (over (q ∷ []) y)
-    inside_up q h = record {
+    -- above one more operand, which a `break` may leave
+    pub inside_up : (q : Sort) → IsKnown q → Inside found w ts al xs sc a y → Inside found w ts al xs sc (up a) (over (q ∷ []) y)
+    inside_up q known h = record {
       even = even_over y h.even (q ∷ []);
       names = h.names;
       stood = h.stood;
@@ -189,7 +189,7 @@ module _ (code : Code) (notes : Notes) where
         outer = g.outer;
         under = g.under;
         tries = g.tries;
-        stack = fit_so to_any g.stack;
+        stack = fit_so (to_any known) g.stack;
         locals = g.locals;
         since = g.since;
       };

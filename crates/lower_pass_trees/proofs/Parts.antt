@@ -1,12 +1,13 @@
 -- What is done with the parts of a form: operands, calls and indices.
 use Rattle.std.proofs.Common.{◌≡◌, ℕ, List, [], ◌∷◌, Bool, true, Option, refl, sym}
 use Rattle.std.proofs.Common.{subst}
-use Rattle.verse_tree.specs.Tree.{Tree, Trees}
+use Rattle.verse_tree.specs.Tree as t
+use Rattle.verse_tree.specs.Tree.{Tree, tree, Trees}
 use Rattle.verse_code.specs.declared.codes.Code.{Code}
 use Rattle.verse_code.specs.declared.operations.Op.TheVariants as o
 use Rattle.verse_names_declarations.specs.Names.{Table}
 use Rattle.verse_sorts.specs.Sorts as s
-use Rattle.verse_sorts.specs.Sorts.{Sort, Fits, to_any}
+use Rattle.verse_sorts.specs.Sorts.{Sort, IsKnown}
 use Rattle.verse_sorts.proofs.Fitting.{fits_itself}
 use Rattle.verse_meaning.specs.Programs.{Program}
 use Rattle.verse_meaning.specs.Residuals as form
@@ -72,6 +73,10 @@ module _ (p : Program) (found : rules.Found) (differ : ℕ → ℕ → Bool) (co
   abbrev pub FormGoes : Way → List ℕ → Option State → Maker → Walk → Sort → Type 0
   FormGoes w ts x f g q = Going code notes w ts x f g (with_value q x) (λ v. Unit {0})
 
+  object_known : (b : Tree) → IsKnown (object_sort p F b)
+  object_known (tree n pl (t.Shape.member b y)) = fine.known.sort (number_of b)
+  object_known (tree n pl y) = tt
+
   module _ (w : Way) (ts : List ℕ) (al : Allowed) (xs : Table) (sc : Scope) (z : Around) (x : Option State)
       (here : Here w ts al xs sc z x) where
     -- what is shown of a part
@@ -90,7 +95,7 @@ module _ (p : Program) (found : rules.Found) (differ : ℕ → ℕ → Bool) (co
         FormOf w ts x e f g q) → FormGoes w ts x (code_then (lower.piece p differ b sc z) (code_then (lower.piece p differ d sc (up z)) f))
         (walk_then (noting.walk p found differ b sc z) (walk_then (noting.walk p found differ d sc (up z)) g)) q
     two_operands b d first second q rest = two_then p found differ code notes declared fine w ts al xs sc z x here
-        (found.sort (number_of b)) (found.sort (number_of d)) q (beside.trees p found differ b sc z)
+        (found.sort (number_of b)) (found.sort (number_of d)) q (fine.known.sort (number_of b)) (beside.trees p found differ b sc z)
         (beside.trees p found differ d sc (up z)) first second rest
 
     -- what is shown of operands in turn
@@ -119,7 +124,7 @@ module _ (p : Program) (found : rules.Found) (differ : ℕ → ℕ → Bool) (co
         let qo = object_sort p F b in
         then_goes code notes (beside.inners p found differ b sc z) object (λ e j.
         then_goes code notes (beside.operands p found differ bs sc (up z))
-        (run e (qo ∷ []) (value_here F code notes w ts al xs sc x qo z here j)
+        (run e (qo ∷ []) (value_here F code notes w ts al xs sc x qo z (object_known b) here j)
         (value_over F code notes w ts al xs sc x qo [] (over_itself code notes) j))
         (λ d above. object_ends p found differ code notes declared fine w ts al xs sc z x here (found.sort n) (how_many bs)
         (sorts_at p F bs) (sym (sorts_many p F bs)) (beside.operands p found differ bs sc (up z)) qo above f i g))
@@ -140,7 +145,8 @@ module _ (p : Program) (found : rules.Found) (differ : ℕ → ℕ → Bool) (co
         (code_then (lower.args p differ bs sc (up z)) (apply.finish f (how_many bs) true)))
         (walk_then (noting.walk p found differ b sc z) (walk_then (noting.indices p found differ q bs sc (up z))
         (walks.finish f (how_many bs) true))) (found.sort n)) (sym i)
-        (λ k. index_goes p found code notes w ts al xs sc z x here q (found.sort n) (sorts_at p F bs) (how_many bs)
+        (λ k. index_goes p found code notes w ts al xs sc z x here q (found.sort n) (fine.known.sort (number_of b))
+        (sorts_at p F bs) (how_many bs)
         (sym (sorts_many p F bs)) r k (beside.trees p found differ b sc z) (beside.indices p found differ q bs sc (up z))
         first (λ e j above. run e (q ∷ []) j above)) k
 

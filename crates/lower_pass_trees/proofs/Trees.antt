@@ -87,7 +87,7 @@ use Rattle.lower_pass_arms.proofs.Grouping.{Arming, no_arms, task_goes, sync_goe
 use Rattle.lower_pass_arms.proofs.Choosing.{Chooses, arm_chooses, case_goes}
 use Rattle.lower_pass_values.proofs.Operands.{value_over, value_here, value_lands, no_operand_goes, operand_goes, wide_operand_goes}
 use Rattle.lower_pass_values.proofs.Operands.{pair_goes}
-use Rattle.lower_pass_values.proofs.Operands.{mapping_goes, map_fits, noted_pairs}
+use Rattle.lower_pass_values.proofs.Operands.{mapping_goes, map_fits, map_keyed, noted_pairs, sorts_known}
 use Rattle.lower_pass_values.proofs.Indices.{noted_indices, IndicesFit, indices_fit}
 use Rattle.lower_pass_values.proofs.Targets.{TargetOf, target_name, target_member, target_index}
 use Rattle.lower_pass_values.proofs.Assigned.{Alike, assignment_goes, index_fails}
@@ -143,12 +143,16 @@ module _ (p : Program) (found : rules.Found) (differ : ℕ → ℕ → Bool) (co
   left_sort (more_trees b bs) = last_sort p F (found.sort (number_of b)) bs
 
   left_fits : (bs : Trees) {q : Sort} → Fit (last_sort p F s.any bs) q → Fit (left_sort bs) q
-  left_fits no_trees f = fits_on (parent_of notes) to_any f
+  left_fits no_trees f = fits_on (parent_of notes) (to_any tt) f
   left_fits (more_trees b bs) f = f
 
   left_some : (bs : Trees) {q : Sort} → Fit (s.opt (last_sort p F s.any bs)) q → Fit (s.opt (left_sort bs)) q
-  left_some no_trees f = fits_on (parent_of notes) (s.fits_opt to_any) f
+  left_some no_trees f = fits_on (parent_of notes) (s.fits_opt (to_any tt)) f
   left_some (more_trees b bs) f = f
+
+  last_known : (q : Sort) → IsKnown q → (bs : Trees) → IsKnown (last_sort p F q bs)
+  last_known q known no_trees = known
+  last_known q known (more_trees b bs) = last_known (found.sort (number_of b)) (fine.known.sort (number_of b)) bs
 
   -- of the part of a statement
   abbrev part_sort : Shape → Sort
@@ -267,10 +271,11 @@ module _ (p : Program) (found : rules.Found) (differ : ℕ → ℕ → Bool) (co
     shapes_pass (t.Shape.returned b) n pl v u w ts al xs sc z x h here =
         let k = gives_told p F al xs h.1 in
         then_goes code notes (beside.trees p found differ b sc z) (trees_pass b u w ts al xs sc z x h.0 here)
-        (λ v i. returns_go F code notes w ts al xs sc z x here (found.sort (number_of b)) k.0 k.1 (returning_fits p F al xs h.1 k.1) i)
+        (λ v i. returns_go F code notes w ts al xs sc z x here (found.sort (number_of b)) k.0 k.1 (returning_fits p F al xs h.1 k.1)
+        (fine.known.sort (number_of b)) i)
     shapes_pass t.Shape.returned_unit n pl v u w ts al xs sc z x h here =
         then_goes code notes counted.just (part.unit_passes p found differ code notes declared fine w ts al xs sc z x here)
-        (λ v i. returns_go F code notes w ts al xs sc z x here s.unit h.0 h.1 h.2 i)
+        (λ v i. returns_go F code notes w ts al xs sc z x here s.unit h.0 h.1 h.2 tt i)
     shapes_pass t.Shape.break_form n pl v u w ts al xs sc z x h here = breaks_go F code notes w ts al xs sc z x here h
     -- failure contexts
     shapes_pass (t.Shape.if_else bs b d) n pl v u w ts al xs sc z x h here =
@@ -375,7 +380,7 @@ module _ (p : Program) (found : rules.Found) (differ : ℕ → ℕ → Bool) (co
         (λ f i k. part.index_passes p found differ code notes declared fine w ts al xs sc z x here b bs n f i
         (trees_pass b (first_tree b bs u) w ts al xs sc z x k.0.0 here) k.0.1
         (λ e qs g j. indices_pass (found.sort (number_of b)) bs (rest_trees b bs u) w ts al xs sc (up z) x k.1
-        (indices_fit p found code notes k.0.1) e qs g j) k.2)
+        (indices_fit p found code notes k.0.1 (sorts_known p F fine.known bs)) e qs g j) k.2)
         (λ f i k. quotient_passes bs (rest_trees b bs u) w ts al xs sc z x here n f i k)
     shapes_pass (t.Shape.call b bs) n pl v u w ts al xs sc z x h here =
         by_kind (picked bs) (callee_of p b (picked bs) pl) _ _ _ _ _ _ _ _ (callee_is p b (picked bs) pl) h
@@ -423,7 +428,7 @@ module _ (p : Program) (found : rules.Found) (differ : ℕ → ℕ → Bool) (co
         mapping_goes p found code notes (found.sort n) ps pl (λ y e. steady_of code notes (here y e)) h.0.1
         (beside.entries p found differ (key_in (found.sort n)) ps sc z)
         (let k = map_fits p found code notes h.0.1 in
-        pairs_pass ps u w ts al xs sc z x (key_in (found.sort n)) k.0 h.0.0 k.1 x [] here (over_itself code notes))
+        pairs_pass ps u w ts al xs sc z x (key_in (found.sort n)) k.0 (map_keyed p found code notes h.0.1) h.0.0 k.1 x [] here (over_itself code notes))
     shapes_pass (t.Shape.instance y gs) n pl v u w ts al xs sc z x h here =
         instance_goes p found differ code notes fine w ts al xs z x (class_ref p (ref_at p n)) h.0 (length sc) pl pl gs
         (found.sort n) h.1 (classes n h.0 h.1) (defaults n h.0 h.1) h.3 (beside.givens p found differ gs sc z)
@@ -479,7 +484,8 @@ module _ (p : Program) (found : rules.Found) (differ : ℕ → ℕ → Bool) (co
         (IsOver code notes (turned (sorts_at p F bs) qs) x)
     args_pass no_trees u w ts al xs sc z x h e qs here above = no_operand_goes F code notes w ts al xs sc x qs above
     args_pass (more_trees b bs) u w ts al xs sc z x h e qs here above =
-        operand_goes F code notes w ts al xs sc x z qs here above (found.sort (number_of b)) (beside.trees p found differ b sc z)
+        operand_goes F code notes w ts al xs sc x z qs here above (found.sort (number_of b)) (fine.known.sort (number_of b))
+        (beside.trees p found differ b sc z)
         (trees_pass b (first_tree b bs u) w ts al xs sc z e h.0 here)
         (λ v i k. args_pass bs (rest_trees b bs u) w ts al xs sc (up z) x h.1 v (found.sort (number_of b) ∷ qs) i k)
 
@@ -491,23 +497,25 @@ module _ (p : Program) (found : rules.Found) (differ : ℕ → ℕ → Bool) (co
     indices_pass q no_trees u w ts al xs sc z x h f e qs here above = no_operand_goes F code notes w ts al xs sc x qs above
     indices_pass q (more_trees b bs) u w ts al xs sc z x h f e qs here above =
         let r = index_in q (found.sort (number_of b)) in
-        wide_operand_goes F code notes w ts al xs sc x z qs here above (found.sort (number_of b)) r f.0 (beside.trees p found differ b sc z)
+        wide_operand_goes F code notes w ts al xs sc x z qs here above (found.sort (number_of b)) r f.1 f.0
+        (beside.trees p found differ b sc z)
         (trees_pass b (first_tree b bs u) w ts al xs sc z e h.0 here)
-        (λ v i k. indices_pass q bs (rest_trees b bs u) w ts al xs sc (up z) x h.1 f.1 v (r ∷ qs) i k)
+        (λ v i k. indices_pass q bs (rest_trees b bs u) w ts al xs sc (up z) x h.1 f.2 v (r ∷ qs) i k)
 
     pairs_pass : (ps : t.Pairs) → Each (NodeStands p) (pairs_order ps) → (w : Way) (ts : List ℕ) (al : Allowed) (xs : Table) (sc : Scope)
-        (z : Around) (x : Option State) (k q : Sort) → FinePairs p F al xs ps → PairsFit p F k q ps → (e : Option State) (qs : List Sort) →
+        (z : Around) (x : Option State) (k q : Sort) → IsKnown k → FinePairs p F al xs ps → PairsFit p F k q ps → (e : Option State) (qs : List Sort) →
         Here w ts al xs sc z e → If e (IsOver code notes qs x) →
         Going code notes w ts e (lower.paired_args p differ ps sc z) (noting.paired_args p found differ k ps sc z) itself
         (IsOver code notes (turned (noted_pairs p F k ps) qs) x)
-    pairs_pass t.Pairs.no_pairs u w ts al xs sc z x k q h f e qs here above = no_operand_goes F code notes w ts al xs sc x qs above
-    pairs_pass (t.Pairs.more_pairs b d ps) u w ts al xs sc z x k q h f e qs here above =
+    pairs_pass t.Pairs.no_pairs u w ts al xs sc z x k q known h f e qs here above = no_operand_goes F code notes w ts al xs sc x qs above
+    pairs_pass (t.Pairs.more_pairs b d ps) u w ts al xs sc z x k q known h f e qs here above =
         let v = each_first (NodeStands p) (post_order b ++ post_order d) (pairs_order ps) u in
-        pair_goes F code notes w ts al xs sc x z qs here above (found.sort (number_of b)) k (found.sort (number_of d)) f.0
+        pair_goes F code notes w ts al xs sc x z qs here above (found.sort (number_of b)) k (found.sort (number_of d)) known
+        (fine.known.sort (number_of d)) f.0
         (beside.trees p found differ b sc z) (beside.trees p found differ d sc (up z))
         (trees_pass b (left b d v) w ts al xs sc z e h.0 here) (λ y i. trees_pass d (right b d v) w ts al xs sc (up z) y h.1 i)
         (λ y i j. pairs_pass ps (each_rest (NodeStands p) (post_order b ++ post_order d) (pairs_order ps) u) w ts al xs sc (up (up z)) x k q
-        h.2 f.2 y (found.sort (number_of d) ∷ k ∷ qs) i j)
+        known h.2 f.2 y (found.sort (number_of d) ∷ k ∷ qs) i j)
 
     holes_pass : (hs : Holes) → Each (NodeStands p) (holes_order hs) → (w : Way) (ts : List ℕ) (al : Allowed) (xs : Table) (sc : Scope)
         (z : Around) (x : Option State) → FineHoles p F al xs hs → (e : Option State) (qs : List Sort) → Here w ts al xs sc z e →
@@ -516,7 +524,7 @@ module _ (p : Program) (found : rules.Found) (differ : ℕ → ℕ → Bool) (co
         (IsOver code notes (turned (noted_holes p F hs) qs) x)
     holes_pass no_holes u w ts al xs sc z x h e qs here above = no_operand_goes F code notes w ts al xs sc x qs above
     holes_pass (more_holes b bs hs) u w ts al xs sc z x h e qs here above =
-        hole_goes p found code notes w ts al xs sc x (found.sort (number_of b)) bs (noted_holes p F hs) z qs here above
+        hole_goes p found code notes w ts al xs sc x (found.sort (number_of b)) (fine.known.sort (number_of b)) bs (noted_holes p F hs) z qs here above
         (beside.trees p found differ b sc z)
         (trees_pass b (each_first (NodeStands p) (post_order b) (holes_order hs) u) w ts al xs sc z e h.0 here)
         (λ y i k. holes_pass hs (each_rest (NodeStands p) (post_order b) (holes_order hs) u) w ts al xs sc
@@ -551,7 +559,7 @@ module _ (p : Program) (found : rules.Found) (differ : ℕ → ℕ → Bool) (co
         (beside.targets p found differ b (base_of p b) sc z)
         (target_passes b (first_tree b bs v) w ts al xs sc z x h.0 f.0 here)
         (λ e qs j k. indices_pass (found.sort (number_of b)) bs (rest_trees b bs v) w ts al xs sc (up (raised (target_operands b) z)) x h.1
-        (indices_fit p found code notes f.1) e qs j k)
+        (indices_fit p found code notes f.1 (sorts_known p F fine.known bs)) e qs j k)
     target_passes (tree i pl y) u w ts al xs sc z x h f here = elim h [ ]
 
     -- ---- the clauses of a `for`
@@ -608,6 +616,7 @@ module _ (p : Program) (found : rules.Found) (differ : ℕ → ℕ → Bool) (co
       _,
       of_ends,
       ends_part p found code notes w ts al z list given xs sc (found.sort (number_of b)) (found.sort (number_of d))
+          (fine.known.sort (number_of b))
           (beside.trees p found differ b sc (enclosed z))
           (λ i e inside. trees_pass b (left b d u) w (i ∷ ts) (rules.tried al) xs sc (enclosed z) e h.0.0 inside)
           (λ i e inside. trees_pass d (right b d u) w (i ∷ ts) (rules.tried al) xs sc (up (enclosed z)) e h.0.1 inside),
@@ -683,7 +692,7 @@ module _ (p : Program) (found : rules.Found) (differ : ℕ → ℕ → Bool) (co
         then_goes code notes (counted.both (beside.trees p found differ b sc z) (beside.trees p found differ d sc (up z)))
         (then_goes code notes (beside.trees p found differ b sc z) (trees_pass b (left b d v) w ts al xs sc z x h.0 here) (λ e j.
         value_over_goes w ts al xs sc x qd (qb ∷ []) (value_over F code notes w ts al xs sc x qb [] (over_itself code notes) j)
-        (trees_pass d (right b d v) w ts al xs sc (up z) e h.1 (value_here F code notes w ts al xs sc x qb z here j))))
+        (trees_pass d (right b d v) w ts al xs sc (up z) e h.1 (value_here F code notes w ts al xs sc x qb z (fine.known.sort (number_of b)) here j))))
         (λ e above. quotient_ends p found differ code notes declared fine w ts al xs sc z x here qb qd (found.sort n) above f i h.2)
     quotient_passes (more_trees (tree m l y) bs) u w ts al xs sc z x here n f i h = elim h [ ]
 
@@ -781,7 +790,7 @@ module _ (p : Program) (found : rules.Found) (differ : ℕ → ℕ → Bool) (co
         (found.sort (number_of b)) y h.1 i) (λ e k.
         leaves_go F code notes w ts al xs sc z x here (deferred_in (one_deferred stated) bs) (last_sort p F (found.sort (number_of b)) bs)
         (seen_after bs (seen_behind b xs)) (scope_behind bs (scope_stated stated sc)) (around_behind p differ bs z2)
-        (behind_base p differ (more_trees b bs) z)
+        (last_known (found.sort (number_of b)) (fine.known.sort (number_of b)) bs) (behind_base p differ (more_trees b bs) z)
         (deferred_count b bs z) k (any_defer (more_trees b bs)) (λ f. no_block b bs f)))
 
     -- conditions, which defer none

@@ -69,7 +69,7 @@ use Rattle.lower_pass_forms.proofs.Applied.{noted_found}
 use Rattle.lower_pass_forms.proofs.Calls.{Declared}
 use Rattle.lower_pass_blocks.proofs.Binding.{bound, IsAbove, put_goes, stays_goes, sees_more, inside_bound}
 use Rattle.verse_sound_rules.specs.Fine.{Settled, Stores, stores_value, stores_nothing}
-use Rattle.lower_pass_values.proofs.Operands.{inside_raised, value_over, after_last_goes}
+use Rattle.lower_pass_values.proofs.Operands.{AreKnown, turned_known, inside_raised, value_over, after_last_goes}
 use Rattle.lower_pass_values.proofs.Targets.{TargetOf, target_here, has_base_so}
 
 -- the number of a new place is used
@@ -218,6 +218,7 @@ module _ (p : Program) (found : rules.Found) (code : Code) (notes : Notes) (w : 
 
   -- the value is of the sort qv, and the place of the sort d
   module _ (is : List Sort) (holder whole d q qv : Sort) (slot number m : ℕ) (many : m ≡ length is)
+      (held : AreKnown (turned is (holder ∷ [])))
       (place : Slot code notes holder slot whole) (path : r.Path code notes whole is d)
       (mode : (qv ≡ s.never) ⊎ r.Mode code notes number qv d) (fails : is ≢ [] → (al.fails ≡ true) ⊎ (qv ≡ s.never)) where
     abbrev os : List Sort
@@ -291,7 +292,7 @@ module _ (p : Program) (found : rules.Found) (code : Code) (notes : Notes) (w : 
 
     here_below : If below (Inside code notes G w ts al xs sc raised_os)
     here_below = if_map code notes (Inside code notes G w ts al xs sc raised_os) (over os) x
-        (λ y e. inside_raised G code notes w ts al xs sc x os a y (here y e))
+        (λ y e. inside_raised G code notes w ts al xs sc x os held a y (here y e))
 
     above_below : {u : Option State} → If u (IsOver code notes (qv ∷ os) x) → If u (IsOver code notes (qv ∷ []) below)
     above_below above z e = let k = above z e in (over os k.0, (ap (option_map (over os)) k.1.0, k.1.1))
@@ -387,7 +388,8 @@ module _ (p : Program) (found : rules.Found) (differ : ℕ → ℕ → Bool) (co
       (numbered_goes code notes pl (λ n. apply.storing (o.Store (slot_of (base_of p b)) (target_operands b) (mode_number (mode_of m)) n)
       kept (length sc)) (λ n.
       stores_go p found code notes w ts al xs sc a x here target.indices target.holder target.whole (sort_at p H b) (H.sort i)
-      (sort_at p H d) (slot_of (base_of p b)) (mode_number (mode_of m)) (target_operands b) target.many target.slot target.path
+      (sort_at p H d) (slot_of (base_of p b)) (mode_number (mode_of m)) (target_operands b) target.many
+      (turned_known target.indices (target.holder ∷ []) target.known.1 (target.known.0, tt)) target.slot target.path
       (mode_so p found code notes m stores) (λ some. fails (none_many target.indices target.many some)) kept n
       (λ e. (read, kept_fits p found code notes m (differ (number_of b) (number_of d)) e stores))
       (λ e. place_fits p found code notes m (differ (number_of b) (number_of d)) e same stores) above))))

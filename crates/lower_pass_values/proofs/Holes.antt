@@ -6,7 +6,7 @@ use Rattle.verse_code.specs.declared.codes.Code.{Code}
 use Rattle.verse_code.specs.declared.operations.Op.TheVariants as o
 use Rattle.verse_names_declarations.specs.Names.{Table}
 use Rattle.verse_sorts.specs.Sorts as s
-use Rattle.verse_sorts.specs.Sorts.{Sort, Fits}
+use Rattle.verse_sorts.specs.Sorts.{Sort, IsKnown, Fits}
 use Rattle.verse_sorts.specs.Typing.{AllFit}
 use Rattle.verse_sorts.proofs.Fitting.{fits_itself}
 use Rattle.verse_meaning.specs.Programs.{Program}
@@ -102,7 +102,7 @@ module _ (p : Program) (found : rules.Found) (code : Code) (notes : Notes) (w : 
       If v (Here (raised (one_if (is_text bs) 0) a))
   text_here [] a here i z e = let k = i z e in subst (Here a) (sym k.1.1) (here k.0 k.1.0)
   text_here (b ∷ bs) a here i z e = let k = i z e in
-      subst (Here (up a)) (sym k.1.1) (inside_raised F code notes w ts al xs sc x (text ∷ []) a k.0 (here k.0 k.1.0))
+      subst (Here (up a)) (sym k.1.1) (inside_raised F code notes w ts al xs sc x (text ∷ []) (tt, tt) a k.0 (here k.0 k.1.0))
 
   text_over : (bs : Bytes) (qs : List Sort) (y : State) → over (with_text bs []) (over qs y) ≡ over (with_text bs qs) y
   text_over [] qs y = refl
@@ -124,14 +124,14 @@ module _ (p : Program) (found : rules.Found) (code : Code) (notes : Notes) (w : 
 
   -- ---- a hole
 
-  pub hole_goes : {u : Option State} {f h : Maker} {g j : Walk} (q : Sort) (bs : Bytes) (more : List Sort) (a : Around) (qs : List Sort) →
+  pub hole_goes : {u : Option State} {f h : Maker} {g j : Walk} (q : Sort) → IsKnown q → (bs : Bytes) (more : List Sort) (a : Around) (qs : List Sort) →
       If u (Here a) → If u (IsOver code notes qs x) → Beside f g → Going code notes w ts u f g itself (IsValue code notes q u) →
       ((v : Option State) → If v (Here (raised (suc (one_if (is_text bs) 0)) a)) → If v (IsOver code notes (with_text bs (q ∷ qs)) x) →
       Going code notes w ts v h j itself (IsOver code notes (turned more (with_text bs (q ∷ qs))) x)) →
       Going code notes w ts u (code_then f (code_then (lower.text_if bs) h)) (walk_then g (walk_then (noting.text_if bs) j)) itself
       (IsOver code notes (turned (q ∷ with_text bs more) qs) x)
-  hole_goes {h = h} {j = j} q bs more a qs here above beside first rest =
-      operand_goes F code notes w ts al xs sc x a qs here above q beside first (λ v i e.
+  hole_goes {h = h} {j = j} q known bs more a qs here above beside first rest =
+      operand_goes F code notes w ts al xs sc x a qs here above q known beside first (λ v i e.
       text_goes bs (up a) (q ∷ qs) i e (λ z k l.
       subst (λ os. Going code notes w ts z h j itself (IsOver code notes os x)) (text_turned bs more (q ∷ qs)) (rest z k l)))
 

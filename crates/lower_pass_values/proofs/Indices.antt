@@ -5,7 +5,7 @@ use Rattle.verse_code.specs.declared.codes.Code.{Code}
 use Rattle.verse_code.specs.declared.operations.Op.TheVariants as o
 use Rattle.verse_names_declarations.specs.Names.{Table}
 use Rattle.verse_sorts.specs.Sorts as s
-use Rattle.verse_sorts.specs.Sorts.{Sort, Fits, from_never}
+use Rattle.verse_sorts.specs.Sorts.{Sort, IsKnown, Fits, from_never}
 use Rattle.verse_sorts.specs.Typing.{AllFit, fit_so}
 use Rattle.verse_sorts.proofs.Fitting.{fits_itself}
 use Rattle.verse_meaning.specs.Programs.{Program}
@@ -40,7 +40,7 @@ use Rattle.lower_pass_stretches.proofs.Inside.{Inside, steady_of}
 use Rattle.lower_pass_forms.proofs.Finishing.{IsOver, over_itself, last_goes, drops_go}
 use Rattle.lower_pass_forms.proofs.Applied.{noted_found}
 use Rattle.verse_sound_rules.specs.Fine.{Reaches, reaches_element, reaches_value, reaches_nothing}
-use Rattle.lower_pass_values.proofs.Operands.{no_operand_goes, operand_goes, value_lands}
+use Rattle.lower_pass_values.proofs.Operands.{AreKnown, key_known, no_operand_goes, operand_goes, value_lands}
 
 -- the sorts of indices, as they are noted
 abbrev pub noted_indices : Sort → List Sort → List Sort
@@ -61,19 +61,23 @@ module _ (p : Program) (found : rules.Found) (code : Code) (notes : Notes) where
   abbrev Fit : Sort → Sort → Type 0
   Fit = Fits (parent_of notes)
 
-  -- each index fits what it is noted as
+  -- each index fits what it is noted as, of which something is known
   abbrev pub IndicesFit : Sort → List Sort → Type 0
   IndicesFit q [] = Unit {0}
-  IndicesFit q (i ∷ is) = Fit i (index_in q i) × IndicesFit q is
+  IndicesFit q (i ∷ is) = Fit i (index_in q i) × IsKnown (index_in q i) × IndicesFit q is
 
-  never_fit : (is : List Sort) → IndicesFit s.never is
-  never_fit [] = tt
-  never_fit (i ∷ is) = (fits_itself (parent_of notes) i, never_fit is)
+  never_fit : (is : List Sort) → AreKnown is → IndicesFit s.never is
+  never_fit [] known = tt
+  never_fit (i ∷ is) known = (fits_itself (parent_of notes) i, known.0, never_fit is known.1)
 
-  pub indices_fit : {q d : Sort} {is : List Sort} → Reaches p F q is d → IndicesFit q is
-  indices_fit (reaches_element {i = i} f) = (fits_itself (parent_of notes) i, tt)
-  indices_fit (reaches_value key f) = (f, tt)
-  indices_fit (reaches_nothing {is = is}) = never_fit is
+  pub indices_fit : {q d : Sort} {is : List Sort} → Reaches p F q is d → AreKnown is → IndicesFit q is
+  indices_fit (reaches_element {i = i} f) known = (fits_itself (parent_of notes) i, known.0, tt)
+  indices_fit (reaches_value key f) known = (f, key_known key, tt)
+  indices_fit (reaches_nothing {is = is}) known = never_fit is known
+
+  pub noted_known : (q : Sort) (is : List Sort) → IndicesFit q is → AreKnown (noted_indices q is)
+  noted_known q [] fit = tt
+  noted_known q (i ∷ is) fit = (fit.1, noted_known q is fit.2)
 
   -- as they are noted they lead on
   nowhere : (is : List Sort) → r.Path code notes s.never (noted_indices s.never is) s.never
@@ -139,15 +143,15 @@ module _ (p : Program) (found : rules.Found) (code : Code) (notes : Notes) where
       index_ends {q} (reaches_nothing {is = is}) fit fails above = nothing_ends q is above
 
       -- a value with its indices
-      pub index_goes : {f h : Maker} {g j : Walk} (qo q : Sort) (is : List Sort) (m : ℕ) → m ≡ length is → Reaches p F qo is q →
+      pub index_goes : {f h : Maker} {g j : Walk} (qo q : Sort) → IsKnown qo → (is : List Sort) (m : ℕ) → m ≡ length is → Reaches p F qo is q →
           Gives p F al xs form.indexing (qo ∷ is) q → Beside f g → Beside h j →
           Going code notes w ts x f g itself (IsValue code notes qo x) →
           ((u : Option State) → If u (Here (up a)) → If u (IsOver code notes (qo ∷ []) x) →
           Going code notes w ts u h j itself (IsOver code notes (turned (noted_indices qo is) (qo ∷ [])) x)) →
           Form q (code_then f (code_then h (apply.finish form.indexing m true)))
           (walk_then g (walk_then j (walks.finish form.indexing m true)))
-      index_goes qo q is m many reach e b1 b2 first run =
-          operand_goes F code notes w ts al xs sc x a [] here (over_itself code notes) qo b1 first (λ u i k.
+      index_goes qo q known is m many reach e b1 b2 first run =
+          operand_goes F code notes w ts al xs sc x a [] here (over_itself code notes) qo known b1 first (λ u i k.
           then_goes code notes b2 (run u i k) (λ v l. subst (λ m. Going code notes w ts v (apply.indexing m) (walks.indexing m)
           (with_value q x) (λ z. Unit {0})) (sym many)
           (index_ends reach (fits_itself (parent_of notes) q) (index_told e.operands e.takes) l)))

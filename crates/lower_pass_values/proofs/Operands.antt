@@ -1,18 +1,20 @@
 -- Operands in turn, one step each: each is noted as it is, or as one of a wider sort. What a map is made of.
-use Rattle.std.proofs.Common.{◌≡◌, ℕ, zero, suc, ◌+◌, length, List, [], ◌∷◌, Option, Some, refl, sym, ◌∙◌, subst, ap, arith}
+use Rattle.std.proofs.Common.{◌≡◌, ℕ, zero, suc, ◌+◌, length, List, [], ◌∷◌, ◌++◌, Option, Some, refl, sym, ◌∙◌, subst, ap, arith}
 use Rattle.verse_base.specs.declared.places.Place.{Place}
 use Rattle.verse_tree.specs.Tree as t
+use Rattle.verse_tree.specs.Tree.{Trees, no_trees, more_trees}
 use Rattle.verse_code.specs.declared.codes.Code.{Code}
 use Rattle.verse_code.specs.declared.operations.Op.{Op}
 use Rattle.verse_code.specs.declared.operations.Op.TheVariants as o
 use Rattle.verse_names_declarations.specs.Names.{Table}
 use Rattle.verse_sorts.specs.Sorts as s
-use Rattle.verse_sorts.specs.Sorts.{Sort, Fits, IsKey}
+use Rattle.verse_sorts.specs.Sorts.{Sort, IsKnown, Fits, IsKey, key_never, key_nil, key_int, key_logic, key_char, key_enum, key_text}
 use Rattle.verse_sorts.proofs.Fitting.{fits_itself}
 use Rattle.verse_meaning.specs.Programs.{Program}
+use Rattle.verse_meaning.specs.Evaluating.{number_of}
 use Rattle.verse_sound_rules.specs.Found as rules
 use Rattle.verse_sound_rules.specs.Found.{Allowed}
-use Rattle.verse_sound_rules.specs.Fine.{sort_at}
+use Rattle.verse_sound_rules.specs.Fine.{sort_at, sorts_at}
 use Rattle.verse_verify_kept.specs.Notes.{Notes, parent_of}
 use Rattle.verse_verify_kept.specs.Rules.{Asked, Keyed, keyed_no, keyed_so}
 use Rattle.lower_code.specs.Pieces as c
@@ -41,6 +43,28 @@ use Rattle.lower_pass_forms.proofs.Applied.{noted_found}
 use Rattle.lower_pass_blocks.proofs.Stated.{weaker}
 use Rattle.verse_sound_rules.specs.Fine.{PairsFit, IsMap, is_map}
 
+-- sorts of operands, of each of which something is known
+abbrev pub AreKnown : List Sort → Type 0
+AreKnown [] = Unit {0}
+AreKnown (q ∷ qs) = IsKnown q × AreKnown qs
+
+pub turned_known : (qs rs : List Sort) → AreKnown qs → AreKnown rs → AreKnown (turned qs rs)
+turned_known [] rs known more = more
+turned_known (q ∷ qs) rs known more = turned_known qs (q ∷ rs) known.1 (known.0, more)
+
+pub append_known : (qs rs : List Sort) → AreKnown qs → AreKnown rs → AreKnown (qs ++ rs)
+append_known [] rs known more = more
+append_known (q ∷ qs) rs known more = (known.0, append_known qs rs known.1 more)
+
+pub key_known : {k : Sort} → IsKey k → IsKnown k
+key_known key_never = tt
+key_known key_nil = tt
+key_known key_int = tt
+key_known key_logic = tt
+key_known key_char = tt
+key_known key_enum = tt
+key_known key_text = tt
+
 -- a value above one that is of another sort
 pub gives_over : (q r : Sort) (y : State) → gives 1 q (over (r ∷ []) y) ≡ over (q ∷ []) y
 gives_over q r y = ap (λ st. over (q ∷ []) (record y { stack = st })) (drop_none y.stack)
@@ -65,19 +89,19 @@ module _ (found : rules.Found) (code : Code) (notes : Notes) (w : Way) (ts : Lis
       If v (IsValue code notes q u) → If v (IsOver code notes (q ∷ qs) x)
   value_over q qs i j z e = let r = j z e in let t = i r.0 r.1.0 in (t.0, (t.1.0, r.1.1 ∙ ap (over (q ∷ [])) t.1.1))
 
-  pub value_here : {u v : Option State} (q : Sort) (a : Around) → If u (Here a) → If v (IsValue code notes q u) → If v (Here (up a))
-  value_here q a h j z e = let r = j z e in subst (Here (up a)) (sym r.1.1) (inside_up code notes q (h r.0 r.1.0))
+  pub value_here : {u v : Option State} (q : Sort) (a : Around) → IsKnown q → If u (Here a) → If v (IsValue code notes q u) → If v (Here (up a))
+  value_here q a known h j z e = let r = j z e in subst (Here (up a)) (sym r.1.1) (inside_up code notes q known (h r.0 r.1.0))
 
   -- several
-  pub inside_raised : (qs : List Sort) (a : Around) (y : State) → Here a y → Here (raised (length qs) a) (over qs y)
-  inside_raised [] a y h = h
-  inside_raised (q ∷ qs) a y h = subst (λ b. Here b (over (q ∷ qs) y)) (sym (raised_up (length qs) a))
-      (inside_up code notes q (inside_raised qs a y h))
+  pub inside_raised : (qs : List Sort) → AreKnown qs → (a : Around) (y : State) → Here a y → Here (raised (length qs) a) (over qs y)
+  inside_raised [] known a y h = h
+  inside_raised (q ∷ qs) known a y h = subst (λ b. Here b (over (q ∷ qs) y)) (sym (raised_up (length qs) a))
+      (inside_up code notes q known.0 (inside_raised qs known.1 a y h))
 
-  pub over_here : {u : Option State} (qs : List Sort) (m : ℕ) (a : Around) → m ≡ length qs → If x (Here a) →
+  pub over_here : {u : Option State} (qs : List Sort) → AreKnown qs → (m : ℕ) (a : Around) → m ≡ length qs → If x (Here a) →
       If u (IsOver code notes qs x) → If u (Here (raised m a))
-  over_here qs m a e h i z k = let r = i z k in
-      subst (λ j. Here (raised j a) z) (sym e) (subst (Here (raised (length qs) a)) (sym r.1.1) (inside_raised qs a r.0 (h r.0 r.1.0)))
+  over_here qs known m a e h i z k = let r = i z k in
+      subst (λ j. Here (raised j a) z) (sym e) (subst (Here (raised (length qs) a)) (sym r.1.1) (inside_raised qs known a r.0 (h r.0 r.1.0)))
 
   -- ---- a value of a wider sort
 
@@ -124,32 +148,36 @@ module _ (found : rules.Found) (code : Code) (notes : Notes) (w : Way) (ts : Lis
 
   -- an operand of the sort q, with those behind it
   module _ {u : Option State} (a : Around) (qs : List Sort) (here : If u (Here a)) (above : If u (IsOver code notes qs x)) where
-    pub operand_goes : {f h : Maker} {g j : Walk} {k : Option State → Option State} {Q : State → Type 0} (q : Sort) → Beside f g →
+    pub operand_goes : {f h : Maker} {g j : Walk} {k : Option State → Option State} {Q : State → Type 0} (q : Sort) → IsKnown q → Beside f g →
         Going code notes w ts u f g itself (IsValue code notes q u) →
         ((v : Option State) → If v (Here (up a)) → If v (IsOver code notes (q ∷ qs) x) → Going code notes w ts v h j k Q) →
         Going code notes w ts u (code_then f h) (walk_then g j) k Q
-    operand_goes q beside first rest = then_goes code notes beside first (λ v i.
-        rest v (value_here q a here i) (value_over q qs above i))
+    operand_goes q known beside first rest = then_goes code notes beside first (λ v i.
+        rest v (value_here q a known here i) (value_over q qs above i))
 
     -- it is noted as one of a wider sort
-    pub wide_operand_goes : {f h : Maker} {g j : Walk} {k : Option State → Option State} {Q : State → Type 0} (r q : Sort) → Fit r q →
+    pub wide_operand_goes : {f h : Maker} {g j : Walk} {k : Option State → Option State} {Q : State → Type 0} (r q : Sort) → IsKnown q → Fit r q →
         Beside f g → Going code notes w ts u f g itself (IsValue code notes r u) →
         ((v : Option State) → If v (Here (up a)) → If v (IsOver code notes (q ∷ qs) x) → Going code notes w ts v h j k Q) →
         Going code notes w ts u (code_then f h) (walk_then (n.widened q g) j) k Q
-    wide_operand_goes r q f beside first rest = operand_goes q (counted.wider q beside) (wide_goes r q f first) rest
+    wide_operand_goes r q known f beside first rest = operand_goes q known (counted.wider q beside) (wide_goes r q f first) rest
 
     -- a key with its value
-    pub pair_goes : {f h m : Maker} {g j l : Walk} {k : Option State → Option State} {Q : State → Type 0} (r q d : Sort) → Fit r q →
+    pub pair_goes : {f h m : Maker} {g j l : Walk} {k : Option State → Option State} {Q : State → Type 0} (r q d : Sort) → IsKnown q → IsKnown d → Fit r q →
         Beside f g → Beside h j → Going code notes w ts u f g itself (IsValue code notes r u) →
         ((v : Option State) → If v (Here (up a)) → Going code notes w ts v h j itself (IsValue code notes d v)) →
         ((v : Option State) → If v (Here (up (up a))) → If v (IsOver code notes (d ∷ q ∷ qs) x) → Going code notes w ts v m l k Q) →
         Going code notes w ts u (code_then f (code_then h m)) (walk_then (n.widened q g) (walk_then j l)) k Q
-    pair_goes r q d f b1 b2 first second rest = wide_operand_goes r q f b1 first (λ v i e.
-        then_goes code notes b2 (second v i) (λ z k. rest z (value_here d (up a) i k) (value_over d (q ∷ qs) e k)))
+    pair_goes r q d known_q known_d f b1 b2 first second rest = wide_operand_goes r q known_q f b1 first (λ v i e.
+        then_goes code notes b2 (second v i) (λ z k. rest z (value_here d (up a) known_d i k) (value_over d (q ∷ qs) e k)))
 
 -- ---- maps
 
 module _ (p : Program) (found : rules.Found) where
+  pub sorts_known : rules.AllKnown found → (bs : Trees) → AreKnown (sorts_at p found bs)
+  sorts_known known no_trees = tt
+  sorts_known known (more_trees b bs) = (known.sort (number_of b), sorts_known known bs)
+
   -- the sorts of pairs, as they are noted
   abbrev pub noted_pairs : Sort → t.Pairs → List Sort
   noted_pairs k t.Pairs.no_pairs = []
@@ -173,6 +201,9 @@ module _ (p : Program) (found : rules.Found) (code : Code) (notes : Notes) where
   -- the keys and the values of a map fit
   pub map_fits : {q : Sort} {ps : t.Pairs} → IsMap p F q ps → (d : Sort) × PairsFit p F (key_in q) d ps
   map_fits (is_map {q = d} key fit) = (d, fit)
+
+  pub map_keyed : {q : Sort} {ps : t.Pairs} → IsMap p F q ps → IsKnown (key_in q)
+  map_keyed (is_map key fit) = key_known key
 
   -- a map of pairs, whose keys are noted as of the keys' sort
   pub mapping_goes : {w : Way} {ts : List ℕ} {x : Option State} {f : Maker} {g : Walk} (q : Sort) (ps : t.Pairs) (pl : Place) →

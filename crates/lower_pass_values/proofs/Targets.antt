@@ -10,7 +10,7 @@ use Rattle.verse_code.specs.declared.codes.Code.{Code}
 use Rattle.verse_code.specs.declared.operations.Op.TheVariants as o
 use Rattle.verse_names_declarations.specs.Names.{Table}
 use Rattle.verse_sorts.specs.Sorts as s
-use Rattle.verse_sorts.specs.Sorts.{Sort, Fits}
+use Rattle.verse_sorts.specs.Sorts.{Sort, IsKnown, Fits}
 use Rattle.verse_sorts.specs.Typing.{at}
 use Rattle.verse_sorts.proofs.Fitting.{fits_itself}
 use Rattle.verse_meaning.specs.Programs.{Program, ref_at}
@@ -53,8 +53,8 @@ use Rattle.lower_pass_forms.proofs.Applied.{noted_found}
 use Rattle.lower_pass_forms.proofs.Calls.{Declared}
 use Rattle.lower_pass_forms.proofs.Callees.{own_goes}
 use Rattle.verse_sound_rules.specs.Fine.{Settled, Reaches}
-use Rattle.lower_pass_values.proofs.Operands.{over_here, raised_up}
-use Rattle.lower_pass_values.proofs.Indices.{noted_indices, noted_many, noted_path}
+use Rattle.lower_pass_values.proofs.Operands.{AreKnown, sorts_known, append_known, turned_known, over_here, raised_up}
+use Rattle.lower_pass_values.proofs.Indices.{noted_indices, noted_many, noted_path, noted_known, indices_fit}
 
 pub turned_append : (is js qs : List Sort) → turned (is ++ js) qs ≡ turned js (turned is qs)
 turned_append [] js qs = refl
@@ -114,6 +114,7 @@ module _ (p : Program) (found : rules.Found) (differ : ℕ → ℕ → Bool) (co
     pub slot : Slot code notes holder (slot_of base) whole
     pub path : r.Path code notes whole indices part
     pub many : count ≡ length indices
+    pub known : IsKnown holder × AreKnown indices
     pub goes : Going code notes w ts x f g itself (IsOver code notes (turned indices (holder ∷ [])) x)
 
   abbrev pub TargetOf : Tree → Type 0
@@ -122,21 +123,27 @@ module _ (p : Program) (found : rules.Found) (differ : ℕ → ℕ → Bool) (co
 
   -- an index that is put in behind it
   index_more : {base : Base} {m k : ℕ} {q d : Sort} {is : List Sort} {f h : Maker} {g j : Walk} → Target base m q f g → Beside f g →
-      Reaches p F q is d → k ≡ length is →
-      ((u : Option State) (qs : List Sort) → If u (IsOver code notes qs x) → length qs ≡ suc m →
+      Reaches p F q is d → AreKnown is → k ≡ length is →
+      ((u : Option State) (qs : List Sort) → AreKnown qs → If u (IsOver code notes qs x) → length qs ≡ suc m →
       Going code notes w ts u h j itself (IsOver code notes (turned (noted_indices q is) qs) x)) →
       Target base (k + m) d (code_then f h) (walk_then g j)
-  index_more {q = q} {is = is} {h = h} {j = j} first beside reach e run = record {
+  index_more {q = q} {is = is} {h = h} {j = j} first beside reach known e run = record {
     holder = first.holder;
     whole = first.whole;
     indices = first.indices ++ noted_indices q is;
     slot = first.slot;
     path = path_then code notes first.path (noted_path p found code notes reach);
     many = sum (length-append first.indices (noted_indices q is)) first.many (e ∙ sym (noted_many q is));
+    known = (
+      first.known.0,
+      append_known first.indices (noted_indices q is) first.known.1
+          (noted_known p found code notes q is (indices_fit p found code notes reach known)),
+    );
     goes = then_goes code notes beside first.goes (λ u i.
         subst (λ qs. Going code notes w ts u h j itself (IsOver code notes qs x))
         (sym (turned_append first.indices (noted_indices q is) (first.holder ∷ [])))
-        (run u (turned first.indices (first.holder ∷ [])) i (turned_on_one first.indices first.holder ∙ ap suc (sym first.many))));
+        (run u (turned first.indices (first.holder ∷ []))
+        (turned_known first.indices (first.holder ∷ []) first.known.1 (first.known.0, tt)) i (turned_on_one first.indices first.holder ∙ ap suc (sym first.many))));
   }
     where
       sum : {a b i j n : ℕ} → n ≡ i + j → a ≡ i → b ≡ j → b + a ≡ n
@@ -183,6 +190,7 @@ module _ (p : Program) (found : rules.Found) (differ : ℕ → ℕ → Bool) (co
       slot = slot_var;
       path = r.path_no;
       many = refl;
+      known = (tt, tt);
       goes = cell_goes y m (find y sc) v (λ z k. (here z k).sees.names y (ref.Local m) e);
     }
     base_placed (in_self i) q (in_own d this e) = record {
@@ -192,6 +200,7 @@ module _ (p : Program) (found : rules.Found) (differ : ℕ → ℕ → Bool) (co
       slot = let k = declared.slots d i q e in slot_obj k.1.0 (subst (λ z. at z i ≡ Some q) (sym k.1.1) e);
       path = r.path_no;
       many = refl;
+      known = (tt, tt);
       goes = own_goes p found differ code notes declared fine w ts al xs sc a x here d this;
     }
     base_placed (in_object i) q h = elim h [ ]
@@ -220,6 +229,7 @@ module _ (p : Program) (found : rules.Found) (differ : ℕ → ℕ → Bool) (co
     slot = object_slot (ref_at p i) (sort_at p F b) (F.sort i) h;
     path = r.path_no;
     many = refl;
+    known = (fine.known.sort (number_of b), tt);
     goes = goes;
   }
 
@@ -233,19 +243,20 @@ module _ (p : Program) (found : rules.Found) (differ : ℕ → ℕ → Bool) (co
         (noting.indices p found differ (sort_at p F b) is sc (up (raised (target_operands b) a))) itself
         (IsOver code notes (turned (noted_indices (sort_at p F b) (sorts_at p F is)) qs) x)) →
         TargetOf (tree i pl (t.Shape.index b is))
-    target_index i pl b is h beside first run = index_more first beside h.1 (sym (sorts_many p F is)) (λ u qs k e.
-        run u qs (higher u qs k (sym e)) k)
+    target_index i pl b is h beside first run = index_more first beside h.1 (sorts_known p F fine.known is) (sym (sorts_many p F is)) (λ u qs known k e.
+        run u qs (higher u qs known k (sym e)) k)
       where
-        higher : (u : Option State) (qs : List Sort) → If u (IsOver code notes qs x) → suc (target_operands b) ≡ length qs →
+        higher : (u : Option State) (qs : List Sort) → AreKnown qs → If u (IsOver code notes qs x) → suc (target_operands b) ≡ length qs →
             If u (Here (up (raised (target_operands b) a)))
-        higher u qs k e = subst (λ z. If u (Here z)) (raised_up (target_operands b) a)
-            (over_here F code notes w ts al xs sc x qs (suc (target_operands b)) a e here k)
+        higher u qs known k e = subst (λ z. If u (Here z)) (raised_up (target_operands b) a)
+            (over_here F code notes w ts al xs sc x qs known (suc (target_operands b)) a e here k)
 
     -- above all of this
     pub target_here : {base : Base} {m : ℕ} {q : Sort} {f : Maker} {g : Walk} {u : Option State} (target : Target base m q f g) →
         If u (IsOver code notes (turned target.indices (target.holder ∷ [])) x) → If u (Here (up (raised m a)))
     target_here {m = m} {u = u} target k = subst (λ z. If u (Here z)) (raised_up m a)
-        (over_here F code notes w ts al xs sc x (turned target.indices (target.holder ∷ [])) (suc m) a
+        (over_here F code notes w ts al xs sc x (turned target.indices (target.holder ∷ []))
+        (turned_known target.indices (target.holder ∷ []) target.known.1 (target.known.0, tt)) (suc m) a
         (ap suc target.many ∙ sym (turned_on_one target.indices target.holder)) here k)
 
     -- it is there
