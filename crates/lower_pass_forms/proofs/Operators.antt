@@ -85,7 +85,8 @@ module _ (p : Program) (found : rules.Found) (differ : ℕ → ℕ → Bool) (co
         ((z : Option State) → If z (Here (up a)) → Going code notes w ts z k l itself (IsValue code notes qb z)) →
         ((u : Option State) → If u (IsOver code notes (qb ∷ qa ∷ []) x) → Going code notes w ts u h j (with_value q x) (λ z. Unit {0})) →
         Form q (code_then f (code_then k h)) (walk_then g (walk_then l j))
-    two_then qa qb q known b1 b2 first second rest = then_goes code notes b1 first (λ z i. then_goes code notes b2 (second z (value_up qa known i))
+    two_then qa qb q known b1 b2 first second rest = then_goes code notes b1 first (λ z i.
+        then_goes code notes b2 (second z (value_up qa known i))
         (λ u k. rest u (λ v e. let r = k v e in let t = i r.0 r.1.0 in
         (t.0, (t.1.0, r.1.1 ∙ ap (over (qb ∷ [])) t.1.1)))))
 

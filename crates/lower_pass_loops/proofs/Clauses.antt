@@ -10,7 +10,8 @@ use Rattle.verse_code.specs.declared.codes.Code.{Code}
 use Rattle.verse_code.specs.declared.operations.Op.TheVariants as o
 use Rattle.verse_names_declarations.specs.Names.{Table}
 use Rattle.verse_sorts.specs.Sorts as s
-use Rattle.verse_sorts.specs.Sorts.{Sort, IsKnown, Fits, FitAll, fit_more, to_none, from_never, fits_int, fits_span, fits_list, fits_map, fits_tuple}
+use Rattle.verse_sorts.specs.Sorts.{Sort, IsKnown, Fits, FitAll, fit_more, to_none, from_never, fits_int, fits_span, fits_list, fits_map}
+use Rattle.verse_sorts.specs.Sorts.{fits_tuple}
 use Rattle.verse_sorts.proofs.Fitting.{fits_on}
 use Rattle.verse_sorts_values.specs.Operands.{sorts}
 use Rattle.verse_meaning.specs.Programs.{Program}

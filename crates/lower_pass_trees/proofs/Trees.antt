@@ -428,7 +428,8 @@ module _ (p : Program) (found : rules.Found) (differ : ℕ → ℕ → Bool) (co
         mapping_goes p found code notes (found.sort n) ps pl (λ y e. steady_of code notes (here y e)) h.0.1
         (beside.entries p found differ (key_in (found.sort n)) ps sc z)
         (let k = map_fits p found code notes h.0.1 in
-        pairs_pass ps u w ts al xs sc z x (key_in (found.sort n)) k.0 (map_keyed p found code notes h.0.1) h.0.0 k.1 x [] here (over_itself code notes))
+        pairs_pass ps u w ts al xs sc z x (key_in (found.sort n)) k.0 (map_keyed p found code notes h.0.1) h.0.0 k.1 x [] here
+        (over_itself code notes))
     shapes_pass (t.Shape.instance y gs) n pl v u w ts al xs sc z x h here =
         instance_goes p found differ code notes fine w ts al xs z x (class_ref p (ref_at p n)) h.0 (length sc) pl pl gs
         (found.sort n) h.1 (classes n h.0 h.1) (defaults n h.0 h.1) h.3 (beside.givens p found differ gs sc z)
@@ -503,8 +504,8 @@ module _ (p : Program) (found : rules.Found) (differ : ℕ → ℕ → Bool) (co
         (λ v i k. indices_pass q bs (rest_trees b bs u) w ts al xs sc (up z) x h.1 f.2 v (r ∷ qs) i k)
 
     pairs_pass : (ps : t.Pairs) → Each (NodeStands p) (pairs_order ps) → (w : Way) (ts : List ℕ) (al : Allowed) (xs : Table) (sc : Scope)
-        (z : Around) (x : Option State) (k q : Sort) → IsKnown k → FinePairs p F al xs ps → PairsFit p F k q ps → (e : Option State) (qs : List Sort) →
-        Here w ts al xs sc z e → If e (IsOver code notes qs x) →
+        (z : Around) (x : Option State) (k q : Sort) → IsKnown k → FinePairs p F al xs ps → PairsFit p F k q ps → (e : Option State)
+        (qs : List Sort) → Here w ts al xs sc z e → If e (IsOver code notes qs x) →
         Going code notes w ts e (lower.paired_args p differ ps sc z) (noting.paired_args p found differ k ps sc z) itself
         (IsOver code notes (turned (noted_pairs p F k ps) qs) x)
     pairs_pass t.Pairs.no_pairs u w ts al xs sc z x k q known h f e qs here above = no_operand_goes F code notes w ts al xs sc x qs above
@@ -524,8 +525,8 @@ module _ (p : Program) (found : rules.Found) (differ : ℕ → ℕ → Bool) (co
         (IsOver code notes (turned (noted_holes p F hs) qs) x)
     holes_pass no_holes u w ts al xs sc z x h e qs here above = no_operand_goes F code notes w ts al xs sc x qs above
     holes_pass (more_holes b bs hs) u w ts al xs sc z x h e qs here above =
-        hole_goes p found code notes w ts al xs sc x (found.sort (number_of b)) (fine.known.sort (number_of b)) bs (noted_holes p F hs) z qs here above
-        (beside.trees p found differ b sc z)
+        hole_goes p found code notes w ts al xs sc x (found.sort (number_of b)) (fine.known.sort (number_of b)) bs (noted_holes p F hs) z qs
+        here above (beside.trees p found differ b sc z)
         (trees_pass b (each_first (NodeStands p) (post_order b) (holes_order hs) u) w ts al xs sc z e h.0 here)
         (λ y i k. holes_pass hs (each_rest (NodeStands p) (post_order b) (holes_order hs) u) w ts al xs sc
         (raised (suc (one_if (is_text bs) 0)) z) x h.1 y (with_text bs (found.sort (number_of b) ∷ qs)) i k)
@@ -692,7 +693,8 @@ module _ (p : Program) (found : rules.Found) (differ : ℕ → ℕ → Bool) (co
         then_goes code notes (counted.both (beside.trees p found differ b sc z) (beside.trees p found differ d sc (up z)))
         (then_goes code notes (beside.trees p found differ b sc z) (trees_pass b (left b d v) w ts al xs sc z x h.0 here) (λ e j.
         value_over_goes w ts al xs sc x qd (qb ∷ []) (value_over F code notes w ts al xs sc x qb [] (over_itself code notes) j)
-        (trees_pass d (right b d v) w ts al xs sc (up z) e h.1 (value_here F code notes w ts al xs sc x qb z (fine.known.sort (number_of b)) here j))))
+        (trees_pass d (right b d v) w ts al xs sc (up z) e h.1
+        (value_here F code notes w ts al xs sc x qb z (fine.known.sort (number_of b)) here j))))
         (λ e above. quotient_ends p found differ code notes declared fine w ts al xs sc z x here qb qd (found.sort n) above f i h.2)
     quotient_passes (more_trees (tree m l y) bs) u w ts al xs sc z x here n f i h = elim h [ ]
 

@@ -124,8 +124,9 @@ module _ (p : Program) (found : rules.Found) (code : Code) (notes : Notes) (w : 
 
   -- ---- a hole
 
-  pub hole_goes : {u : Option State} {f h : Maker} {g j : Walk} (q : Sort) → IsKnown q → (bs : Bytes) (more : List Sort) (a : Around) (qs : List Sort) →
-      If u (Here a) → If u (IsOver code notes qs x) → Beside f g → Going code notes w ts u f g itself (IsValue code notes q u) →
+  pub hole_goes : {u : Option State} {f h : Maker} {g j : Walk} (q : Sort) → IsKnown q → (bs : Bytes) (more : List Sort)
+      (a : Around) (qs : List Sort) → If u (Here a) → If u (IsOver code notes qs x) → Beside f g →
+      Going code notes w ts u f g itself (IsValue code notes q u) →
       ((v : Option State) → If v (Here (raised (suc (one_if (is_text bs) 0)) a)) → If v (IsOver code notes (with_text bs (q ∷ qs)) x) →
       Going code notes w ts v h j itself (IsOver code notes (turned more (with_text bs (q ∷ qs))) x)) →
       Going code notes w ts u (code_then f (code_then (lower.text_if bs) h)) (walk_then g (walk_then (noting.text_if bs) j)) itself

@@ -143,8 +143,8 @@ module _ (p : Program) (found : rules.Found) (code : Code) (notes : Notes) where
       index_ends {q} (reaches_nothing {is = is}) fit fails above = nothing_ends q is above
 
       -- a value with its indices
-      pub index_goes : {f h : Maker} {g j : Walk} (qo q : Sort) → IsKnown qo → (is : List Sort) (m : ℕ) → m ≡ length is → Reaches p F qo is q →
-          Gives p F al xs form.indexing (qo ∷ is) q → Beside f g → Beside h j →
+      pub index_goes : {f h : Maker} {g j : Walk} (qo q : Sort) → IsKnown qo → (is : List Sort) (m : ℕ) → m ≡ length is →
+          Reaches p F qo is q → Gives p F al xs form.indexing (qo ∷ is) q → Beside f g → Beside h j →
           Going code notes w ts x f g itself (IsValue code notes qo x) →
           ((u : Option State) → If u (Here (up a)) → If u (IsOver code notes (qo ∷ []) x) →
           Going code notes w ts u h j itself (IsOver code notes (turned (noted_indices qo is) (qo ∷ [])) x)) →

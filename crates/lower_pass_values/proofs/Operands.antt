@@ -89,7 +89,8 @@ module _ (found : rules.Found) (code : Code) (notes : Notes) (w : Way) (ts : Lis
       If v (IsValue code notes q u) → If v (IsOver code notes (q ∷ qs) x)
   value_over q qs i j z e = let r = j z e in let t = i r.0 r.1.0 in (t.0, (t.1.0, r.1.1 ∙ ap (over (q ∷ [])) t.1.1))
 
-  pub value_here : {u v : Option State} (q : Sort) (a : Around) → IsKnown q → If u (Here a) → If v (IsValue code notes q u) → If v (Here (up a))
+  pub value_here : {u v : Option State} (q : Sort) (a : Around) → IsKnown q → If u (Here a) → If v (IsValue code notes q u) →
+      If v (Here (up a))
   value_here q a known h j z e = let r = j z e in subst (Here (up a)) (sym r.1.1) (inside_up code notes q known (h r.0 r.1.0))
 
   -- several
@@ -101,7 +102,8 @@ module _ (found : rules.Found) (code : Code) (notes : Notes) (w : Way) (ts : Lis
   pub over_here : {u : Option State} (qs : List Sort) → AreKnown qs → (m : ℕ) (a : Around) → m ≡ length qs → If x (Here a) →
       If u (IsOver code notes qs x) → If u (Here (raised m a))
   over_here qs known m a e h i z k = let r = i z k in
-      subst (λ j. Here (raised j a) z) (sym e) (subst (Here (raised (length qs) a)) (sym r.1.1) (inside_raised qs known a r.0 (h r.0 r.1.0)))
+      subst (λ j. Here (raised j a) z) (sym e) (subst (Here (raised (length qs) a)) (sym r.1.1)
+      (inside_raised qs known a r.0 (h r.0 r.1.0)))
 
   -- ---- a value of a wider sort
 
@@ -148,23 +150,23 @@ module _ (found : rules.Found) (code : Code) (notes : Notes) (w : Way) (ts : Lis
 
   -- an operand of the sort q, with those behind it
   module _ {u : Option State} (a : Around) (qs : List Sort) (here : If u (Here a)) (above : If u (IsOver code notes qs x)) where
-    pub operand_goes : {f h : Maker} {g j : Walk} {k : Option State → Option State} {Q : State → Type 0} (q : Sort) → IsKnown q → Beside f g →
-        Going code notes w ts u f g itself (IsValue code notes q u) →
+    pub operand_goes : {f h : Maker} {g j : Walk} {k : Option State → Option State} {Q : State → Type 0} (q : Sort) → IsKnown q →
+        Beside f g → Going code notes w ts u f g itself (IsValue code notes q u) →
         ((v : Option State) → If v (Here (up a)) → If v (IsOver code notes (q ∷ qs) x) → Going code notes w ts v h j k Q) →
         Going code notes w ts u (code_then f h) (walk_then g j) k Q
     operand_goes q known beside first rest = then_goes code notes beside first (λ v i.
         rest v (value_here q a known here i) (value_over q qs above i))
 
     -- it is noted as one of a wider sort
-    pub wide_operand_goes : {f h : Maker} {g j : Walk} {k : Option State → Option State} {Q : State → Type 0} (r q : Sort) → IsKnown q → Fit r q →
-        Beside f g → Going code notes w ts u f g itself (IsValue code notes r u) →
+    pub wide_operand_goes : {f h : Maker} {g j : Walk} {k : Option State → Option State} {Q : State → Type 0} (r q : Sort) → IsKnown q →
+        Fit r q → Beside f g → Going code notes w ts u f g itself (IsValue code notes r u) →
         ((v : Option State) → If v (Here (up a)) → If v (IsOver code notes (q ∷ qs) x) → Going code notes w ts v h j k Q) →
         Going code notes w ts u (code_then f h) (walk_then (n.widened q g) j) k Q
     wide_operand_goes r q known f beside first rest = operand_goes q known (counted.wider q beside) (wide_goes r q f first) rest
 
     -- a key with its value
-    pub pair_goes : {f h m : Maker} {g j l : Walk} {k : Option State → Option State} {Q : State → Type 0} (r q d : Sort) → IsKnown q → IsKnown d → Fit r q →
-        Beside f g → Beside h j → Going code notes w ts u f g itself (IsValue code notes r u) →
+    pub pair_goes : {f h m : Maker} {g j l : Walk} {k : Option State → Option State} {Q : State → Type 0} (r q d : Sort) → IsKnown q →
+        IsKnown d → Fit r q → Beside f g → Beside h j → Going code notes w ts u f g itself (IsValue code notes r u) →
         ((v : Option State) → If v (Here (up a)) → Going code notes w ts v h j itself (IsValue code notes d v)) →
         ((v : Option State) → If v (Here (up (up a))) → If v (IsOver code notes (d ∷ q ∷ qs) x) → Going code notes w ts v m l k Q) →
         Going code notes w ts u (code_then f (code_then h m)) (walk_then (n.widened q g) (walk_then j l)) k Q

@@ -143,7 +143,8 @@ module _ (p : Program) (found : rules.Found) (differ : ℕ → ℕ → Bool) (co
         subst (λ qs. Going code notes w ts u h j itself (IsOver code notes qs x))
         (sym (turned_append first.indices (noted_indices q is) (first.holder ∷ [])))
         (run u (turned first.indices (first.holder ∷ []))
-        (turned_known first.indices (first.holder ∷ []) first.known.1 (first.known.0, tt)) i (turned_on_one first.indices first.holder ∙ ap suc (sym first.many))));
+        (turned_known first.indices (first.holder ∷ []) first.known.1 (first.known.0, tt)) i
+        (turned_on_one first.indices first.holder ∙ ap suc (sym first.many))));
   }
     where
       sum : {a b i j n : ℕ} → n ≡ i + j → a ≡ i → b ≡ j → b + a ≡ n
@@ -243,8 +244,8 @@ module _ (p : Program) (found : rules.Found) (differ : ℕ → ℕ → Bool) (co
         (noting.indices p found differ (sort_at p F b) is sc (up (raised (target_operands b) a))) itself
         (IsOver code notes (turned (noted_indices (sort_at p F b) (sorts_at p F is)) qs) x)) →
         TargetOf (tree i pl (t.Shape.index b is))
-    target_index i pl b is h beside first run = index_more first beside h.1 (sorts_known p F fine.known is) (sym (sorts_many p F is)) (λ u qs known k e.
-        run u qs (higher u qs known k (sym e)) k)
+    target_index i pl b is h beside first run = index_more first beside h.1 (sorts_known p F fine.known is)
+        (sym (sorts_many p F is)) (λ u qs known k e. run u qs (higher u qs known k (sym e)) k)
       where
         higher : (u : Option State) (qs : List Sort) → AreKnown qs → If u (IsOver code notes qs x) → suc (target_operands b) ≡ length qs →
             If u (Here (up (raised (target_operands b) a)))

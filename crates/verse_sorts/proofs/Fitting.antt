@@ -2,7 +2,8 @@
 use Rattle.std.proofs.Common.{◌≡◌, ◌≢◌, ℕ, List, [], ◌∷◌, Option, refl, ◌∙◌}
 use Rattle.verse_value.specs.Val.{Val, Vals, Pairs}
 use Rattle.verse_sorts.specs.Sorts as s
-use Rattle.verse_sorts.specs.Sorts.{Sort, Sorts, IsKnown, Inherits, itself, above, Fits, FitAll, to_none, to_any, from_never, fits_unit, fits_nil}
+use Rattle.verse_sorts.specs.Sorts.{Sort, Sorts, IsKnown, Inherits, itself, above, Fits, FitAll, to_none, to_any, from_never, fits_unit}
+use Rattle.verse_sorts.specs.Sorts.{fits_nil}
 use Rattle.verse_sorts.specs.Sorts.{fits_int, fits_logic, fits_char, fits_span, nil_logic, nil_opt, int_span, unit_span, fits_enum}
 use Rattle.verse_sorts.specs.Sorts.{fits_obj, fits_var, fits_event, fits_task, fits_opt, fits_list, fits_map, fits_tuple, fit_none}
 use Rattle.verse_sorts.specs.Sorts.{fit_more}

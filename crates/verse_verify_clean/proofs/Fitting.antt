@@ -7,7 +7,8 @@ use Rattle.verse_meaning_state.specs.Waits.{eqn}
 use Rattle.verse_meaning_state.proofs.Numbers.{eqn_same}
 use Rattle.verse_code_machine_parents.proofs.Lists.{no_both}
 use Rattle.verse_sorts.specs.Sorts as s
-use Rattle.verse_sorts.specs.Sorts.{Sort, Sorts, IsKnown, Inherits, itself, above, Fits, FitAll, to_none, to_any, from_never, fits_unit, fits_nil}
+use Rattle.verse_sorts.specs.Sorts.{Sort, Sorts, IsKnown, Inherits, itself, above, Fits, FitAll, to_none, to_any, from_never, fits_unit}
+use Rattle.verse_sorts.specs.Sorts.{fits_nil}
 use Rattle.verse_sorts.specs.Sorts.{fits_int, fits_logic, fits_char, fits_span, nil_logic, nil_opt, int_span, unit_span, fits_enum}
 use Rattle.verse_sorts.specs.Sorts.{fits_obj, fits_var, fits_event, fits_task, fits_opt, fits_list, fits_map, fits_tuple, fit_none}
 use Rattle.verse_sorts.specs.Sorts.{fit_more, IsKey, key_never, key_nil, key_int, key_logic, key_char, key_enum, key_text}

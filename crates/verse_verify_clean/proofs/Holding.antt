@@ -138,17 +138,20 @@ module _ (c : Code) (t : Table) where
       where
         by_spot : Spotted c t e q → (x : Spot) × EntryAt p e count x × (cut x ≡ q)
         by_spot x =
-            let b = bare_spot x.spot (ap (λ (r : Point). r.stack) x.is ∙ n.stack) (ap (λ (r : Point). r.tries) x.is ∙ n.tries) in
-            (x.spot, record {
-              there = x.there;
-              func = n.func ∙ sym (ap (λ (r : Point). r.func) x.is);
-              arm = n.arm ∙ sym (ap (λ (r : Point). r.arm) x.is);
-              block = ap (λ (r : Point). r.block) x.is ∙ n.block;
-              stack = b.0;
-              tries = b.1;
-              defers = ap (λ (r : Point). r.defers) x.is ∙ n.defers;
-              under = ap (λ (r : Point). r.under) x.is ∙ n.under;
-            }, x.is)
+            let b = bare_spot x.spot (ap (λ (r : Point). r.stack) x.is ∙ n.stack) (ap (λ (r : Point). r.tries) x.is ∙ n.tries) in (
+              x.spot,
+              record {
+                there = x.there;
+                func = n.func ∙ sym (ap (λ (r : Point). r.func) x.is);
+                arm = n.arm ∙ sym (ap (λ (r : Point). r.arm) x.is);
+                block = ap (λ (r : Point). r.block) x.is ∙ n.block;
+                stack = b.0;
+                tries = b.1;
+                defers = ap (λ (r : Point). r.defers) x.is ∙ n.defers;
+                under = ap (λ (r : Point). r.under) x.is ∙ n.under;
+              },
+              x.is,
+            )
 
     pub ready_back : (p : Spot) (ls : List Sort) (ds : List ℕ) → Ready c (notes c t) (cut p) ls ds → ready c t p ls ds ≡ true
     ready_back p ls [] r = refl

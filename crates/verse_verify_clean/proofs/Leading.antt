@@ -135,8 +135,8 @@ module _ (c : Code) (t : Table) where
           each_holds t.classes g.locals q.locals ≡ true → Suit g
       test_of g q e func part tries stack locals = record {
         is = subst (λ m. on_spot m (λ q. eqn p.func q.func && of_part p g.index g.part q && known_marks g.tries q.tries &&
-          each_holds t.classes g.stack q.stack && each_holds t.classes g.locals q.locals) ≡ true) (sym e)
-          (and_from _ _ (and_from _ _ (and_from _ _ (and_from _ _ (fitting.same_number p.func q.func func) part) tries) stack) locals);
+            each_holds t.classes g.stack q.stack && each_holds t.classes g.locals q.locals) ≡ true) (sym e)
+            (and_from _ _ (and_from _ _ (and_from _ _ (and_from _ _ (fitting.same_number p.func q.func func) part) tries) stack) locals);
       }
 
       pub suits_so : {j : ℕ} {ds : List ℕ} (ms : List Mark) (made wrote : List Made) (xs ls : List Sort) →
@@ -152,8 +152,8 @@ module _ (c : Code) (t : Table) where
           by_spot x =
               let k = subst (λ (r : Point). Kin (cut p) r) (sym x.is) l.kin in
               let y = rejoined ms x.spot.tries xs x.spot.stack ev x.even
-                  (subst (λ (r : Point). Fitting c t (above xs ms) r.stack) (sym x.is) l.stack)
-                  (subst (λ (r : Point). TriesFit c N (opens xs ms) r.tries) (sym x.is) l.tries) in
+              (subst (λ (r : Point). Fitting c t (above xs ms) r.stack) (sym x.is) l.stack)
+              (subst (λ (r : Point). TriesFit c N (opens xs ms) r.tries) (sym x.is) l.tries) in
               test_of (record { index = j; part = inner ds; locals = wrote; stack = made; tries = Some ms }) x.spot x.there k.func
               (and_from _ _ (and_from _ _ (and_from _ _ (and_from _ _ (arm_back p.arm x.spot.arm k.arm)
               (number_back p.block x.spot.block k.block)) (numbers_back p.outer x.spot.outer k.outer))

@@ -129,9 +129,9 @@ module _ (c : Code) (t : Table) (p : Spot) (i : ℕ) (here : Here c t p i) where
       by_tries [] eq e = cc
       by_tries (m ∷ ms) eq e =
           let k = subst (λ ns. r.Leads c N P p.locals (above p.stack ns ++ above (beneath p.stack (m ∷ ms)) ms)
-              (opens (beneath p.stack (m ∷ ms)) ms) p.defers (suc i)) eq
-              (subst (λ (x : Open). r.Leads c N P p.locals (st ++ x.beneath) (opens (beneath p.stack (m ∷ ms)) ms) p.defers (suc i))
-              (first_is m ms e) (subst (λ xs. r.Leads c N P p.locals (st ++ x.beneath) xs p.defers (suc i)) (rest_is m ms e) l)) in
+          (opens (beneath p.stack (m ∷ ms)) ms) p.defers (suc i)) eq
+          (subst (λ (x : Open). r.Leads c N P p.locals (st ++ x.beneath) (opens (beneath p.stack (m ∷ ms)) ms) p.defers (suc i))
+          (first_is m ms e) (subst (λ xs. r.Leads c N P p.locals (st ++ x.beneath) xs p.defers (suc i)) (rest_is m ms e) l)) in
           led c t p i here _
           (suit_so (subst (λ ns. Suit c t here.told p (record (to c t p i (suc i) [] st) { tries = step.tails ns }))
           (sym eq) (ended m ms p.locals eq k)) suit_no)
@@ -150,18 +150,18 @@ module _ (c : Code) (t : Table) (p : Spot) (i : ℕ) (here : Here c t p i) where
           let tried = subst (λ (x : Open). slice_get c.ops x.index ≡ Some (o.Try label)) (first_is m ms e) is_try in
           let q = here.told.labels i p m ms label here.there eq tried in
           let locals = ap (λ (n : Option Op). step.label_locals t (step.try_label n) p.locals) tried ∙
-              ap (λ (n : Option Spot). step.spot_locals n p.locals) q.1 in
+          ap (λ (n : Option Spot). step.spot_locals n p.locals) q.1 in
           let ev_here = subst (λ ms. even (length p.stack) ms ≡ true) eq ev in
           let none = subst (λ ns. above p.stack ns ≡ []) eq empty in
           let l = f (cut q.0) (point_there c t label q.0 q.1 (here.told.even label q.0 q.1)) in
           let k = subst (λ us. r.Leads c N P q.0.locals (us ++ above (beneath p.stack (m ∷ ms)) ms)
-              (opens (beneath p.stack (m ∷ ms)) ms) p.defers (suc i)) (sym none)
-              (subst (λ (x : Open). r.Leads c N P q.0.locals x.beneath (opens (beneath p.stack (m ∷ ms)) ms) p.defers (suc i))
-              (first_is m ms e) (subst (λ xs. r.Leads c N P q.0.locals x.beneath xs p.defers (suc i)) (rest_is m ms e) l)) in
+          (opens (beneath p.stack (m ∷ ms)) ms) p.defers (suc i)) (sym none)
+          (subst (λ (x : Open). r.Leads c N P q.0.locals x.beneath (opens (beneath p.stack (m ∷ ms)) ms) p.defers (suc i))
+          (first_is m ms e) (subst (λ xs. r.Leads c N P q.0.locals x.beneath xs p.defers (suc i)) (rest_is m ms e) l)) in
           let length_is = all_beneath (length (above p.stack (m ∷ ms))) m.height (length p.stack)
-              (sym (ap length (whole p.stack (m ∷ ms))) ∙
-              (length-append (above p.stack (m ∷ ms)) (beneath p.stack (m ∷ ms)) ∙
-              ap (λ n. length (above p.stack (m ∷ ms)) + n) (length_beneath p.stack m ms ev_here))) (ap length none) in
+          (sym (ap length (whole p.stack (m ∷ ms))) ∙
+          (length-append (above p.stack (m ∷ ms)) (beneath p.stack (m ∷ ms)) ∙
+          ap (λ n. length (above p.stack (m ∷ ms)) + n) (length_beneath p.stack m ms ev_here))) (ap length none) in
           led c t p i here _
           (suit_so (subst (λ ns. Suit c t here.told p (record (to c t p i (suc i) [] st) {
             tries = step.tails ns;

@@ -188,8 +188,10 @@ module _ (c : Code) (t : Table) (p : Spot) (i : ℕ) (here : Here c t p i) where
       Fine c t p i op (step.on_slot t.classes a k go)
   slot_back go r.slot_var f = record { none = f.none }
   slot_back {op = op} go (r.slot_obj {class = d} {k = k} {a = a} h e) f =
-      record { none = (there c t p i here op 6 go
-      (subst (λ m. step.slots_at t.classes m k ≡ Some a) (sym h) e) f).none }
+      record {
+        none = (there c t p i here op 6 go
+            (subst (λ m. step.slots_at t.classes m k ≡ Some a) (sym h) e) f).none;
+      }
   slot_back go r.slot_never f = record { none = f.none }
 
   pub load_back : {m : ℕ} → Passed (o.Load m) → Done (o.Load m)

@@ -77,5 +77,7 @@ module _ (c : Code) (t : Table) (p : Spot) (i : ℕ) (here : Here c t p i) where
         Fit c (notes c t) a s.int → Fit c (notes c t) b s.int → Fine c t p i op (go rest) → Fine c t p i op (ints c t p i st go)
     two_ints {a = a} {b = b} go e f g h =
         subst (λ st. Fine c t p i op (ints c t p i st go)) (sym e)
-        (record { none = (needed 5 (and_from (fit t.classes a s.int) (fit t.classes b s.int)
-        (leading.fits c t here.told f) (leading.fits c t here.told g)) h).none })
+        (record {
+          none = (needed 5 (and_from (fit t.classes a s.int) (fit t.classes b s.int)
+              (leading.fits c t here.told f) (leading.fits c t here.told g)) h).none;
+        })

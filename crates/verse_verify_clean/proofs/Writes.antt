@@ -196,7 +196,7 @@ module _ (c : Code) (t : Table) (p : Spot) (i : ℕ) (here : Here c t p i) where
   append_back {l = k} (r.of_append {a = a} {b = b} {u = u} {st = st} {ls = ls} e h f g w q l) =
       let x = list_back c t f in
       let z = written c t here.told p.locals k (list_of (x.sort ∷ a ∷ [])) (s.list u) ls w
-          (λ b h. holds_list c t here.told (x.sort ∷ a ∷ []) u b (in_so x.fits (in_so g in_no)) h) in
+      (λ b h. holds_list c t here.told (x.sort ∷ a ∷ []) u b (in_so x.fits (in_so g in_no)) h) in
       popped c t p i here _ _ e (there c t p i here _ 6 _ (readable_back (at p.locals k) b h (list_read c t here.told f))
       (there c t p i here _ 5 _ x.is (there c t p i here _ 6 _ z.is
       (led c t p i here _ (suit_so (wrote c t here.told p i (evenly c t p i here) z.made st l z.holds) suit_no)
