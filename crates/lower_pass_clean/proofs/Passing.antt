@@ -1,14 +1,14 @@
 -- The notes of a whole program break no rule.
-use Rattle.std.proofs.Common.{◌≡◌, ℕ, Bool, None, All, refl}
+use Rattle.std.proofs.Common.{◌≡◌, ℕ, Bool, length, None, All, refl}
 use Rattle.verse_tree.specs.PostOrder.{items_order}
-use Rattle.verse_code.specs.Validity.{Valid}
+use Rattle.verse_code.specs.Validity.{IsClass}
 use Rattle.verse_meaning.specs.Programs.{Program}
 use Rattle.verse_sound_rules.specs.Found as rules
 use Rattle.verse_sound_rules.specs.Programs.{FineFound}
 use Rattle.verse_verify_faults.specs.Faults.{notes_fault}
 use Rattle.verse_verify_laws.specs.Laws.{Formed}
 use Rattle.verse_verify_clean.specs.Laws.{Falling}
-use Rattle.verse_verify_clean.proofs.Tables.{verified_notes}
+use Rattle.verse_verify_clean.proofs.Tables.{clean}
 use Rattle.lower_code.specs.Programs.{code_of}
 use Rattle.lower_notes.specs.Programs as n
 use Rattle.lower_notes.proofs.Whole.{one_for_each}
@@ -33,11 +33,13 @@ module _ (p : Program) (found : rules.Found) (differ : ℕ → ℕ → Bool) (fi
         spots = counts.spots;
       }
 
-  pub note_passes : Valid (code_of p differ files) → Falling (n.notes_of p found differ (code_of p differ files)) →
+  -- of the validity of the code only that of its classes is needed, so the count of files may be any
+  pub note_passes : All (IsClass (length (code_of p differ files).functions)) (code_of p differ files).classes →
+      Falling (n.notes_of p found differ (code_of p differ files)) →
       notes_fault (code_of p differ files) (n.notes_of p found differ (code_of p differ files)) ≡ None
-  note_passes valid falling =
-      verified_notes (code_of p differ files) (n.notes_of p found differ (code_of p differ files)) valid formed
+  note_passes are falling =
+      clean (code_of p differ files) (n.notes_of p found differ (code_of p differ files))
       (told_of (code_of p differ files) (n.notes_of p found differ (code_of p differ files))
       (n.whole p found differ (code_of p differ files)).states refl
-      (held_states p found differ files numbers nodes items told fine knot) falling)
+      (held_states p found differ files numbers nodes items told fine knot) falling) are formed
       (verified p found differ files numbers nodes items told fine knot)

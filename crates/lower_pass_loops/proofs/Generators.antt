@@ -257,7 +257,8 @@ module _ (found : rules.Found) (code : Code) (notes : Notes) (w : Way) (ts : Lis
         here = led.here;
         within = record { tries = refl; stack = refl; defers = refl };
         after = subst (After code notes 0 (turn y)) (sym (behind_try i (turn y))) (after_itself code notes (turn y));
-        inside = inside_tried code notes i led.here (opened_try code notes i label (inside_turn h).even h.inside.even led) (λ z k. quiet_label code notes i label led h.inside z (fewer l k)) (inside_turn h);
+        inside = inside_tried code notes i led.here (opened_try code notes i label (inside_turn h).even h.inside.even led)
+            (λ z k. quiet_label code notes i label led h.inside z (fewer l k)) (inside_turn h);
         outer = subst (Inside code notes found w ts al ys four_more a) (sym (behind_try i (turn y))) (inside_turn h);
         listed = more_listed other q (more_listed slot p h.listed);
       }

@@ -1,28 +1,34 @@
 -- The notes of the code of accepted files fulfil the rules.
-use Rattle.std.proofs.Common.{◌≡◌, ℕ, Bool, false, List, length, map, Some, All, inl, refl, sym, subst}
+use Rattle.std.proofs.Common.{◌≡◌, ℕ, Bool, false, List, length, map, ◌≤◌, Some, inl, refl, sym, subst}
 use Rattle.std.specs.Prelude.{slice_get}
 use Rattle.verse_tree.specs.ItemTree.{ItemTree}
 use Rattle.verse_tree.specs.ItemView.{item_of}
-use Rattle.verse_tree.specs.PostOrder.{items_order}
+use Rattle.verse_tree.specs.declared.programs.Program.{Program as Made}
 use Rattle.verse_tree.specs.declared.tables.Names.{Names}
 use Rattle.verse_code.specs.declared.codes.Code.{Code}
 use Rattle.verse_rules_walk.specs.Order.{InPostOrder}
 use Rattle.verse_rules.specs.Sound.{completed}
-use Rattle.verse_meaning.specs.Programs.{Program, ref_at, fields_of, is_array_type, is_event_type, of_type}
+use Rattle.verse_accept.specs.Fronts.{Accepts}
+use Rattle.verse_meaning.specs.Programs.{Program, program_of, ref_at, fields_of, is_array_type, is_event_type, of_type}
 use Rattle.verse_meaning.specs.Evaluating.{class_ref}
 use Rattle.verse_sorts.specs.Sorts as s
 use Rattle.verse_sorts.specs.Sorts.{Sort}
 use Rattle.verse_sound_rules.specs.Found.{Found}
 use Rattle.verse_sound_rules.specs.Programs.{FineFound}
 use Rattle.verse_verify_kept.specs.Notes.{Notes}
+<<<<<<< HEAD
 use Rattle.verse_verify_kept.specs.Rules.{Verified}
 use Rattle.verse_verify_faults.specs.Spots as spots
 use Rattle.lower_code.specs.Programs.{code_of}
 use Rattle.lower_bounds.specs.Programs as bounds
 use Rattle.lower_simulation_runs.specs.Programs.{NodeStands, NumbersAgree, CanBeFollowed}
+=======
+use Rattle.verse_verify_kept.specs.Rules.{Verified, IsRead}
+use Rattle.lower_bounds.specs.Programs.{TablesAgree}
+use Rattle.lower_simulation_runs.specs.Programs.{NumbersAgree, CanBeFollowed}
+>>>>>>> 8a77c53acf0cea2548d788c20c48a149061c4714
 use Rattle.lower_sound.specs.Programs.{ItemsFound}
 use Rattle.lower_lookup.specs.Types.{differ_of}
-use Rattle.lower_notes.specs.Programs as n
 use Rattle.lower_pass_values.proofs.Assigned.{Alike}
 use Rattle.lower_pass_values.proofs.Instances.{IsClass, HaveDefaults}
 use Rattle.lower_pass_values.proofs.Tabled.{class_ref_is, have_defaults, is_class}
@@ -34,12 +40,13 @@ use Rattle.lower_pass_programs.proofs.Inheriting.{fine_noted}
 use Rattle.lower_pass_programs.proofs.Bodies.{Knot}
 use Rattle.lower_pass_programs.proofs.Whole as passed
 use Rattle.note_sorts.specs.Tabled.{found_of}
-use Rattle.note_found.specs.Laws.{Agree, TablesAgree}
+use Rattle.note_found.specs.Laws.{Agree, TablesAgree as TablesFound}
 use Rattle.verse_accept_nodes.specs.Laws.{AcceptedShaped}
 use Rattle.verse_accept_laws.specs.Laws.{AcceptedCanBeFollowed}
 use Rattle.verse_accept_classes.specs.Laws.{Quiet, FunctionsStand}
 use Rattle.verse_accept_classes.proofs.Tables.{functions_found}
 use Rattle.verse_accept_fine.specs.Sorted.{sorted}
+use Rattle.verse_accept_sound.specs.Laws.{IsTold}
 use Rattle.verse_accept_sound.specs.Programs.{ProgramsAreFine}
 use Rattle.verse_accept_sound.proofs.Told.{tables_tell}
 use Rattle.verse_accept_sound.proofs.Whole as sound
@@ -48,17 +55,36 @@ use Rattle.note_pass.specs.Laws.{AcceptedNotesPass}
 use Rattle.note_pass.proofs.Types.{nodes_alike}
 use Rattle.note_pass.proofs.Telling as telling
 
+<<<<<<< HEAD
 -- ---- a program of which all of this is told
+=======
+-- what is known may be read
+read : (q : Sort) → IsKnown q → IsRead q
+read s.none h = h
+read q h = tt
 
-module _ (p : Program) (found : Found) (differ : ℕ → ℕ → Bool) (count : ℕ)
-    (same : (m n : ℕ) → differ m n ≡ false → Alike (found.sort m) (found.sort n)) (tables : bounds.TablesAgree p)
-    (numbers : NumbersAgree p) (nodes : All (NodeStands p) (items_order p.items)) (items : ItemsFound p found p.items)
-    (told : Told p found) (fine : FineFound p found) where
+-- ---- what the notes of a program pass by
+>>>>>>> 8a77c53acf0cea2548d788c20c48a149061c4714
+
+pub record IsReady (p : Program) (found : Found) (differ : ℕ → ℕ → Bool) (files : ℕ) : Type 0 where
+  pub same : (m n : ℕ) → differ m n ≡ false → Alike (found.sort m) (found.sort n)
+  pub can : CanBeFollowed p files
+  pub items : ItemsFound p found p.items
+  pub told : Told p found
+  pub fine : FineFound p found
+
+module _ (p : Program) (found : Found) (differ : ℕ → ℕ → Bool) (files count : ℕ) (ready : IsReady p found differ files) where
   abbrev code : Code
   code = declared.code p found differ count
 
   abbrev notes : Notes
   notes = declared.notes p found differ count
+
+  abbrev tables : TablesAgree p
+  tables = ready.can.lowered.tables
+
+  abbrev numbers : NumbersAgree p
+  numbers = ready.can.numbers
 
   classes : (m k : ℕ) → class_ref p (ref_at p m) ≡ Some k → IsClass p found code notes k
   classes m k e = is_class p found differ count notes refl tables numbers m k (class_ref_is p (ref_at p m) k e)
@@ -66,12 +92,19 @@ module _ (p : Program) (found : Found) (differ : ℕ → ℕ → Bool) (count : 
   defaults : (m k : ℕ) → class_ref p (ref_at p m) ≡ Some k → HaveDefaults p found code notes (fields_of p k)
   defaults m k e = have_defaults p found differ count notes refl tables numbers m k (class_ref_is p (ref_at p m) k e)
 
+<<<<<<< HEAD
   trees : Knot p found differ count
   trees = trees_pass p found differ code notes (all_declared p found differ count numbers told)
       (fine_noted p found differ count told fine) same classes defaults
+=======
+  pub trees : Knot p found differ count
+  trees = trees_pass p found differ code notes (all_declared p found differ count numbers ready.told)
+      (fine_noted p found differ count ready.told ready.fine) (λ m. read (found.sort m) (ready.fine.known.sort m))
+      (λ m. read (found.key m) (ready.fine.known.key m)) ready.same classes defaults
+>>>>>>> 8a77c53acf0cea2548d788c20c48a149061c4714
 
   notes_pass : Verified code notes
-  notes_pass = passed.verified p found differ count numbers nodes items told fine trees
+  notes_pass = passed.verified p found differ count numbers ready.can.nodes ready.items ready.told ready.fine trees
 
 -- ---- one that is accepted
 
@@ -87,9 +120,11 @@ one_found f g h = λ i. record {
 }
 
 module _ (order : InPostOrder) (shapes : AcceptedShaped) (follows : AcceptedCanBeFollowed) (programs : ProgramsAreFine)
-    (agree : TablesAgree) where
-  pub accepted_pass : AcceptedNotesPass
-  accepted_pass files made some few a told count =
+    (agree : TablesFound) where
+  pub accepted_ready : (files : List (List ℕ)) (made : Made) → 1 ≤ length files → length files ≤ 16 →
+      Accepts files (map item_of made.tree.items) → IsTold made →
+      IsReady (program_of made) (found_of made) (differ_of made) (length files)
+  accepted_ready files made some few a told =
       let is : List ItemTree = map item_of made.tree.items in
       let arrays : ℕ → Bool = λ n. of_type is_array_type (slice_get made.typed.types n) in
       let events : ℕ → Bool = λ n. of_type is_event_type (slice_get made.typed.types n) in
@@ -99,14 +134,17 @@ module _ (order : InPostOrder) (shapes : AcceptedShaped) (follows : AcceptedCanB
       let numbered = sound.numbered order shapes programs files is a in
       let quiet : Quiet is = λ n c b. sound_is.named n c (inl b) in
       let functions : FunctionsStand is = functions_found is numbered in
-      let can : CanBeFollowed (of_names (completed is)) (length files) =
-      subst (λ k. CanBeFollowed (of_names k) (length files)) told.names (follows made files some few a told.names) in
-      let fine = sound.items_found order shapes programs files is a arrays events (tables_tell is made.typed.types told.types) in
-      let pass : (k : Names) (f : Found) → Type 0 = λ k f. Verified (code_of (of_names k) differ count)
-      (spots.notes_of (n.notes_of (of_names k) f differ (code_of (of_names k) differ count))) in
-      let here : pass (completed is) (sorted is) =
-      notes_pass (of_names (completed is)) (sorted is) differ count (nodes_alike is made.typed.types told.types)
-      can.lowered.tables can.numbers can.nodes (items_found is quiet functions arrays events)
-      (telling.told is arrays events (shapes files is a) numbered sound_is quiet functions) fine in
-      subst (pass made.names) (sym (one_found (found_of made) (sorted is) (agree made told.names told.types)))
-      (subst (λ k. pass k (sorted is)) (sym told.names) here)
+      let ready : (k : Names) (f : Found) → Type 0 = λ k f. IsReady (of_names k) f differ (length files) in
+      let here : ready (completed is) (sorted is) = record {
+        same = nodes_alike is made.typed.types told.types;
+        can = subst (λ k. CanBeFollowed (of_names k) (length files)) told.names (follows made files some few a told.names);
+        items = items_found is quiet functions arrays events;
+        told = telling.told is arrays events (shapes files is a) numbered sound_is quiet functions;
+        fine = sound.items_found order shapes programs files is a arrays events (tables_tell is made.typed.types told.types);
+      } in
+      subst (ready made.names) (sym (one_found (found_of made) (sorted is) (agree made told.names told.types)))
+      (subst (λ k. ready k (sorted is)) (sym told.names) here)
+
+  pub accepted_pass : AcceptedNotesPass
+  accepted_pass files made some few a told count = notes_pass (program_of made) (found_of made) (differ_of made) (length files) count
+      (accepted_ready files made some few a told)

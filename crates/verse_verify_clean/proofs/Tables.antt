@@ -1,6 +1,6 @@
 -- Classes, functions, entries, and the whole.
 use Rattle.std.proofs.Common.{◌≡◌, ℕ, zero, suc, ◌+◌, ◌-◌, ◌<◌, length, List, [], ◌∷◌, ◌++◌, Option, Some, None, Bool, true, false}
-use Rattle.std.proofs.Common.{cond, refl, sym, subst, ap, arith, ◌∙◌}
+use Rattle.std.proofs.Common.{cond, refl, sym, subst, ap, arith, ◌∙◌, All}
 use Rattle.std.specs.Prelude.{◌&&◌, not, slice_get}
 use Rattle.std.proofs.lemmas.Bool.{and_from}
 use Rattle.std.proofs.lemmas.Option.{none-some, same_Some}
@@ -9,7 +9,7 @@ use Rattle.verse_code.specs.declared.operations.Op.{Op}
 use Rattle.verse_code.specs.declared.codes.Func.{Func}
 use Rattle.verse_code.specs.declared.codes.Class.{Class}
 use Rattle.verse_code.specs.declared.codes.Code.{Code}
-use Rattle.verse_code.specs.Validity.{Valid, IsClass}
+use Rattle.verse_code.specs.Validity.{IsClass}
 use Rattle.verse_meaning_state.specs.Waits.{eqn}
 use Rattle.verse_meaning_state.proofs.Numbers.{eqn_is, eqn_not}
 use Rattle.verse_code_machine_parents.proofs.Lists.{no_both}
@@ -186,9 +186,13 @@ module _ (c : Code) (t : Table) (told : Told c t) where
           let x = h 0 j g refl e in
           subst (λ ps. takes_object c t k ps ≡ true) (sym x.1) (fits c t told x.2)
 
-  class_back : (formed : Formed c t) (valid : Valid c) (k : ℕ) (x : ClassNote) (q : Class) → slice_get t.classes k ≡ Some x →
+  -- the one part of a code's validity that is needed
+  abbrev ClassesAre : Type 0
+  ClassesAre = All (IsClass (length c.functions)) c.classes
+
+  class_back : (formed : Formed c t) (are : ClassesAre) (k : ℕ) (x : ClassNote) (q : Class) → slice_get t.classes k ≡ Some x →
       ClassIs c N k x q → class_is c t k x q ≡ true
-  class_back formed valid k x q e r =
+  class_back formed are k x q e r =
       and_from _ _ (and_from _ _ (subst (λ b. not b ≡ true) (sym (not_back (length t.classes) k x.parent
       (λ d h. told.falling.falls k d (ap parent_in e ∙ h)))) refl) (by_parent x.parent refl))
       (own_back k q.methods (λ m j g h n. r.own m j g h n))
@@ -197,7 +201,7 @@ module _ (c : Code) (t : Table) (told : Told c t) where
           slice_get (methods_at c t m) n ≡ Some j → Noted j
       methods_noted b None h n j e = elim (none-some _ e) [ ]
       methods_noted b (Some o) h n j e =
-          let is = all_get (IsClass (length c.functions)) c.classes b o valid.classes h in
+          let is = all_get (IsClass (length c.functions)) c.classes b o are h in
           let less = all_get (λ f. f < length c.functions) o.methods n j is.methods e in
           let there = get_within t.functions j (subst (λ n. j < n) (sym formed.functions) less) in
           record { func = there.0; is = there.1 }
@@ -262,10 +266,10 @@ module _ (c : Code) (t : Table) (told : Told c t) where
   from_zero : (i : ℕ) → i ≡ 0 + i
   from_zero i = omega arith
 
-  module _ (valid : Valid c) (formed : Formed c t) (v : Verified c N) where
+  module _ (are : ClassesAre) (formed : Formed c t) (v : Verified c N) where
     classes_fine : class_fault c t 0 t.classes c.classes ≡ None
     classes_fine = no_class 0 t.classes c.classes formed.classes
-        (λ j x q a b. subst (λ k. class_is c t k x q ≡ true) (from_zero j) (class_back formed valid j x q a (v.classes j x q a b)))
+        (λ j x q a b. subst (λ k. class_is c t k x q ≡ true) (from_zero j) (class_back formed are j x q a (v.classes j x q a b)))
 
     functions_fine : func_fault c t 0 t.functions ≡ None
     functions_fine = no_func 0 t.functions (λ j g e. subst (λ k. func_is c t k g ≡ true) (from_zero j)
@@ -288,4 +292,4 @@ module _ (c : Code) (t : Table) (told : Told c t) where
         no_fault 0 c.ops (λ i op e. subst (λ k. fault_at c t k op ≡ None) (from_zero i) (op_fine i op e)))
 
 pub verified_notes : VerifiedNotes
-verified_notes c t valid formed told v = clean c t told valid formed v
+verified_notes c t valid formed told v = clean c t told valid.classes formed v
