@@ -15,7 +15,7 @@ use Rattle.verse_sorts.specs.Typing.{at}
 use Rattle.verse_sorts.proofs.Fitting.{fits_itself}
 use Rattle.verse_meaning.specs.Programs.{Program, ref_at}
 use Rattle.verse_meaning.specs.Residuals.{Base, in_variable, in_self, in_object, nowhere}
-use Rattle.verse_meaning.specs.Evaluating.{base_of, base_named, base_member}
+use Rattle.verse_meaning.specs.Evaluating.{base_of, base_named, base_member, number_of}
 use Rattle.verse_sound_rules.specs.Found as rules
 use Rattle.verse_sound_rules.specs.Found.{Allowed}
 use Rattle.verse_sound_rules.specs.Forms.{Placed, in_local, in_own, in_field}

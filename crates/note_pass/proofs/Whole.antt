@@ -11,8 +11,6 @@ use Rattle.verse_rules.specs.Sound.{completed}
 use Rattle.verse_accept.specs.Fronts.{Accepts}
 use Rattle.verse_meaning.specs.Programs.{Program, program_of, ref_at, fields_of, is_array_type, is_event_type, of_type}
 use Rattle.verse_meaning.specs.Evaluating.{class_ref}
-use Rattle.verse_sorts.specs.Sorts as s
-use Rattle.verse_sorts.specs.Sorts.{Sort}
 use Rattle.verse_sound_rules.specs.Found.{Found}
 use Rattle.verse_sound_rules.specs.Programs.{FineFound}
 use Rattle.verse_verify_kept.specs.Notes.{Notes}

@@ -3,15 +3,13 @@ use Rattle.std.proofs.Common.{◌≡◌, ℕ, zero, suc, ◌-◌, List, [], ◌�
 use Rattle.std.specs.Prelude.{Some, None, slice_get}
 use Rattle.verse_tree.specs.ItemTree.{ItemTree}
 use Rattle.verse_tree.specs.declared.tables.FunInfo.{FunInfo}
-use Rattle.verse_rules_types.specs.Types.{Ty, ty_of}
-use Rattle.verse_rules_types.specs.Types as ty
+use Rattle.verse_rules_types.specs.Types.{ty_of}
 use Rattle.verse_names_declarations.specs.Known.{known}
 use Rattle.verse_check_typing.specs.Members.{fields_of}
 use Rattle.verse_check_typing.specs.Loops.{index_of}
 use Rattle.verse_rules.specs.Sound.{completed}
 use Rattle.verse_sorts.specs.Sorts.{Sort, IsKnown}
 use Rattle.verse_sorts.specs.Typing.{at}
-use Rattle.verse_sorts_types.specs.SortOf.{sort_of}
 use Rattle.verse_sorts_types.proofs.Fitting.{sort_known}
 use Rattle.verse_sound_rules.specs.Found.{AllKnown}
 use Rattle.verse_accept_rows.specs.Found.{final}
