@@ -14,17 +14,9 @@ use Rattle.verse_meaning.specs.Evaluating.{class_ref}
 use Rattle.verse_sound_rules.specs.Found.{Found}
 use Rattle.verse_sound_rules.specs.Programs.{FineFound}
 use Rattle.verse_verify_kept.specs.Notes.{Notes}
-<<<<<<< HEAD
 use Rattle.verse_verify_kept.specs.Rules.{Verified}
-use Rattle.verse_verify_faults.specs.Spots as spots
-use Rattle.lower_code.specs.Programs.{code_of}
-use Rattle.lower_bounds.specs.Programs as bounds
-use Rattle.lower_simulation_runs.specs.Programs.{NodeStands, NumbersAgree, CanBeFollowed}
-=======
-use Rattle.verse_verify_kept.specs.Rules.{Verified, IsRead}
 use Rattle.lower_bounds.specs.Programs.{TablesAgree}
 use Rattle.lower_simulation_runs.specs.Programs.{NumbersAgree, CanBeFollowed}
->>>>>>> 8a77c53acf0cea2548d788c20c48a149061c4714
 use Rattle.lower_sound.specs.Programs.{ItemsFound}
 use Rattle.lower_lookup.specs.Types.{differ_of}
 use Rattle.lower_pass_values.proofs.Assigned.{Alike}
@@ -53,16 +45,7 @@ use Rattle.note_pass.specs.Laws.{AcceptedNotesPass}
 use Rattle.note_pass.proofs.Types.{nodes_alike}
 use Rattle.note_pass.proofs.Telling as telling
 
-<<<<<<< HEAD
--- ---- a program of which all of this is told
-=======
--- what is known may be read
-read : (q : Sort) → IsKnown q → IsRead q
-read s.none h = h
-read q h = tt
-
 -- ---- what the notes of a program pass by
->>>>>>> 8a77c53acf0cea2548d788c20c48a149061c4714
 
 pub record IsReady (p : Program) (found : Found) (differ : ℕ → ℕ → Bool) (files : ℕ) : Type 0 where
   pub same : (m n : ℕ) → differ m n ≡ false → Alike (found.sort m) (found.sort n)
@@ -90,16 +73,9 @@ module _ (p : Program) (found : Found) (differ : ℕ → ℕ → Bool) (files co
   defaults : (m k : ℕ) → class_ref p (ref_at p m) ≡ Some k → HaveDefaults p found code notes (fields_of p k)
   defaults m k e = have_defaults p found differ count notes refl tables numbers m k (class_ref_is p (ref_at p m) k e)
 
-<<<<<<< HEAD
-  trees : Knot p found differ count
-  trees = trees_pass p found differ code notes (all_declared p found differ count numbers told)
-      (fine_noted p found differ count told fine) same classes defaults
-=======
   pub trees : Knot p found differ count
   trees = trees_pass p found differ code notes (all_declared p found differ count numbers ready.told)
-      (fine_noted p found differ count ready.told ready.fine) (λ m. read (found.sort m) (ready.fine.known.sort m))
-      (λ m. read (found.key m) (ready.fine.known.key m)) ready.same classes defaults
->>>>>>> 8a77c53acf0cea2548d788c20c48a149061c4714
+      (fine_noted p found differ count ready.told ready.fine) ready.same classes defaults
 
   notes_pass : Verified code notes
   notes_pass = passed.verified p found differ count numbers ready.can.nodes ready.items ready.told ready.fine trees
