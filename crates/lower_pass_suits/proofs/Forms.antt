@@ -13,7 +13,7 @@ use Rattle.verse_meaning.specs.Programs.{Program, ref_at}
 use Rattle.verse_meaning.specs.Residuals as form
 use Rattle.verse_meaning.specs.Residuals.{Base, a_constant, a_variable}
 use Rattle.verse_meaning.specs.Evaluating.{statement_of, none_left, picked, member_form, callee_of, spawned_callee}
-use Rattle.verse_meaning.specs.Evaluating.{base_of, enum_member, class_ref, number_of}
+use Rattle.verse_meaning.specs.Evaluating.{base_of, class_ref, number_of}
 use Rattle.verse_sound_rules.specs.Found.{Found}
 use Rattle.lower_code.specs.declared.arounds.Around.{Around}
 use Rattle.lower_code.specs.Pieces.{Maker, one, put_away}
