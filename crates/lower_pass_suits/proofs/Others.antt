@@ -189,7 +189,8 @@ module _ {k : Kind} where
 
   -- ---- callees
 
-  pub callees : (b : Callee) {on_alone on_object on_value on_quotient : Form → Maker} {as_alone as_object as_value as_quotient : Form → Walk} →
+  pub callees : (b : Callee) {on_alone on_object on_value on_quotient : Form → Maker}
+      {as_alone as_object as_value as_quotient : Form → Walk} →
       ((x : Form) → Keeps k (on_alone x) (as_alone x)) → ((x : Form) → Keeps k (on_object x) (as_object x)) →
       ((x : Form) → Keeps k (on_value x) (as_value x)) → ((x : Form) → Keeps k (on_quotient x) (as_quotient x)) →
       Keeps k (l.by_callee b on_alone on_object on_value on_quotient) (n.by_callee b as_alone as_object as_value as_quotient)
