@@ -116,7 +116,7 @@ some_state (Some y) q e = (y, (refl, by (even (length y.stack) y.tries) e))
     by true e = same_Some _ _ e
     by false e = elim (none-some _ e) [ ]
 
-live_is : (x : Option (Option Point)) (q : Point) → live x ≡ Some q → x ≡ Some (Some q)
+pub live_is : (x : Option (Option Point)) (q : Point) → live x ≡ Some q → x ≡ Some (Some q)
 live_is None q e = elim (none-some _ e) [ ]
 live_is (Some x) q e = ap (λ z. Some z) e
 

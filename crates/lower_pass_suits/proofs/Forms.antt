@@ -13,14 +13,15 @@ use Rattle.verse_meaning.specs.Programs.{Program, ref_at}
 use Rattle.verse_meaning.specs.Residuals as form
 use Rattle.verse_meaning.specs.Residuals.{Base, a_constant, a_variable}
 use Rattle.verse_meaning.specs.Evaluating.{statement_of, none_left, picked, member_form, callee_of, spawned_callee}
-use Rattle.verse_meaning.specs.Evaluating.{base_of, enum_member, class_ref, number_of}
+use Rattle.verse_meaning.specs.Evaluating.{base_of, class_ref, number_of}
 use Rattle.verse_sound_rules.specs.Found.{Found}
 use Rattle.lower_code.specs.declared.arounds.Around.{Around}
 use Rattle.lower_code.specs.Pieces.{Maker, one, put_away}
 use Rattle.lower_code.specs.Scopes.{Scope, hidden, this_found}
 use Rattle.lower_code.specs.Arounds.{fresh, up, raised, looped, enclosed}
 use Rattle.lower_code.specs.Applied.{started}
-use Rattle.lower_code.specs.Lowering.{how_many, is_text, one_if, joined_parts, pairs_in, any_defer, target_operands, scope_stated, scope_behind, has_base}
+use Rattle.lower_code.specs.Lowering.{how_many, is_text, one_if, joined_parts, pairs_in}
+use Rattle.lower_code.specs.Lowering.{any_defer, target_operands, scope_stated, scope_behind, has_base}
 use Rattle.lower_code.specs.Lowering.{around_stated, piece, shape_piece, statements, more_statements, inner, inner_shape, args, holed}
 use Rattle.lower_code.specs.Lowering.{paired_args, given_args, quotient, quotient_shape, target_piece, target_shape, levels, arms}
 use Rattle.lower_code.specs.Lowering.{arm_shape, task_arms, arm_spots, spawned, spawned_shape}
@@ -31,7 +32,8 @@ use Rattle.lower_notes.specs.Noting as n
 use Rattle.lower_notes.specs.Noting.{key_in, index_in}
 use Rattle.lower_pass_stretches.proofs.Begins.{tree_begins, shape_begins}
 use Rattle.lower_pass_suits.proofs.Suited.{Kind, stays, popped, given, put, try_closed, blocks_run, arm_started}
-use Rattle.lower_pass_suits.proofs.Kept.{Keeps, both, each, none, just, just_last, at_place, place_last, text, away, stops, just_ends, if_so, else_stuck, numbered, gives_value, wider}
+use Rattle.lower_pass_suits.proofs.Kept.{Keeps, both, each, none, just, just_last, at_place, place_last}
+use Rattle.lower_pass_suits.proofs.Kept.{text, away, stops, just_ends, if_so, else_stuck, numbered, gives_value, wider}
 use Rattle.lower_pass_suits.proofs.Kept.{before, tries, attempts, loops, groups}
 use Rattle.lower_pass_suits.proofs.Kept as kept
 use Rattle.lower_pass_suits.proofs.Others.{Made_of, binds, stores, finishes, starts, texts, reads_this, returns, breaks, callees}
@@ -68,7 +70,8 @@ module _ (p : Program) (found : Found) (differ : ℕ → ℕ → Bool) {w : Kind
         (found.sort i) (g.sort i) (g.variable i))
     shapes (t.Shape.assignment x b c) i pl sc a =
         both (targets b (base_of p b) sc a) (both (trees c sc (up (raised (target_operands b) a)))
-        (else_stuck (has_base p differ b (base_of p b) sc) (numbered pl (λ m. stores g.bare _ _ _ _ _ _ (g.sort (number_of b)) (g.sort (number_of c))))))
+        (else_stuck (has_base p differ b (base_of p b) sc)
+        (numbered pl (λ m. stores g.bare _ _ _ _ _ _ (g.sort (number_of b)) (g.sort (number_of c))))))
     shapes (t.Shape.returned b) i pl sc a = both (trees b sc a) (returns a)
     shapes t.Shape.returned_unit i pl sc a = both (just (given 0 s.unit g.bare.unit)) (returns a)
     shapes t.Shape.break_form i pl sc a = breaks a
@@ -270,7 +273,8 @@ module _ (p : Program) (found : Found) (differ : ℕ → ℕ → Bool) {w : Kind
     -- the arms of a group
     pub tasks : (ts : Trees) (sc : Scope) → Keeps w (task_arms p differ ts sc) (n.task_arms p found differ ts sc)
     tasks no_trees sc = none
-    tasks (more_trees b ts) sc = each (kept.arms (one o.ArmEnd) (found.sort (number_of b)) (g.sort (number_of b)) (trees b sc fresh)) (tasks ts sc)
+    tasks (more_trees b ts) sc =
+        each (kept.arms (one o.ArmEnd) (found.sort (number_of b)) (g.sort (number_of b)) (trees b sc fresh)) (tasks ts sc)
 
     -- the call that a `spawn` starts
     pub spawns : (b : Tree) (sc : Scope) (a : Around) → Keeps w (spawned p differ b sc a)

@@ -1,6 +1,6 @@
 -- Stretches whose states are suited: how the combinators keep it.
-use Rattle.std.proofs.Common.{◌≡◌, ℕ, zero, suc, ◌+◌, ◌≤◌, length, List, [], ◌∷◌, ◌++◌, map, Option, Some, None, Bool, true, false, cond, refl}
-use Rattle.std.proofs.Common.{arith, length-append}
+use Rattle.std.proofs.Common.{◌≡◌, ℕ, zero, suc, ◌+◌, ◌≤◌, length, List, [], ◌∷◌, ◌++◌, map, Option, Some, None, Bool, true, false, cond}
+use Rattle.std.proofs.Common.{refl, arith, length-append}
 use Rattle.std.specs.Prelude.{option_map}
 use Rattle.verse_base.specs.declared.places.Place.{Place}
 use Rattle.verse_tree.specs.Tree.{Bytes}
@@ -14,21 +14,15 @@ use Rattle.lower_code.specs.Pieces.{Spot, Item, sure, leaving, Maker, past, next
 use Rattle.lower_code.specs.Lowering as l
 use Rattle.lower_code.proofs.Standing.{behind_is, later_is}
 use Rattle.lower_bounds.proofs.Lists.{Each, each_first, each_rest, each_joined, each_weaker}
-use Rattle.lower_notes.specs.States.{State, Change, pops, gives, tried, untried, in_arm, in_block, deferred}
+use Rattle.lower_notes.specs.States.{State, Change, pops, gives, in_arm, in_block, deferred}
 use Rattle.lower_notes.specs.Stretches as n
 use Rattle.lower_notes.specs.Stretches.{Walk, with_value, is_left, out_with, outs, unreached, above}
 use Rattle.lower_notes.proofs.Counted.{code_then, walk_then, walk_beside}
 use Rattle.lower_pass_stretches.proofs.Begins.{Starts, starts, Begins}
-use Rattle.lower_pass_suits.proofs.Suited.{Kind, Plain, Suited, SuitedAt, Keeping, suited_on, at_on, at_map, stays, popped, given, given_one}
+use Rattle.lower_pass_suits.proofs.Suited.{Kind, SuitedAt, Keeping, suited_on, at_on, at_map, stays, popped, given, given_one}
 use Rattle.lower_pass_suits.proofs.Suited.{try_opened, try_closed, arm_begun, block_begun, block_deferred, left_above}
 
--- what defers nothing
-abbrev pub IsSober : Item → Type 0
-IsSober (sure (o.Defer k)) = ⊥
-IsSober i = Unit {0}
-
-abbrev pub Sober : List Item → Type 0
-Sober = Each IsSober
+-- ---- how many states there are, and the parts of loops
 
 outs_count : (d : ℕ) (left : Option ℕ) (x : Option State) → length (outs d left x) ≡ suc d
 outs_count zero left x = refl
@@ -49,6 +43,15 @@ turn_code f k a = code_then (c.ahead o.Jump (c.ahead o.Try f)) (c.one (o.Take k 
 
 abbrev turn_walk : Change → Walk → Walk
 turn_walk turn g = walk_then (n.ahead (n.always turn) (n.always n.same) (n.attempt g)) n.last
+
+-- ---- what defers nothing
+
+abbrev pub IsSober : Item → Type 0
+IsSober (sure (o.Defer k)) = ⊥
+IsSober i = Unit {0}
+
+abbrev pub Sober : List Item → Type 0
+Sober = Each IsSober
 
 some_states : {x : Option State} {xs : List (Option State)} → Starts x xs → 1 ≤ length xs
 some_states starts = omega arith
@@ -216,8 +219,8 @@ module _ {w : Kind} where
         let xs : List (Option State) = (g at z).states in
         let one = x.keeps s at z (λ r. each_first IsSober (f s).items (h e).items (q r)) i in
         joined_goes w at xs (k (behind xs at) (g at z).exit).states one
-            (y.keeps e (behind xs at) (g at z).exit (λ r. each_rest IsSober (f s).items (h e).items (q r))
-            (at_on w (omega (arith, behind_is xs at)) (g at z).exit one.exit));
+        (y.keeps e (behind xs at) (g at z).exit (λ r. each_rest IsSober (f s).items (h e).items (q r))
+        (at_on w (omega (arith, behind_is xs at)) (g at z).exit one.exit));
   }
 
   -- both walks begin with one state
@@ -227,8 +230,8 @@ module _ {w : Kind} where
         let e : Spot = past s (f s) in
         let xs : List (Option State) = (g at z).states in
         joined_goes w at xs (k (behind xs at) z).states (x.keeps s at z (λ r. each_first IsSober (f s).items (h e).items (q r)) i)
-            (y.keeps e (behind xs at) z (λ r. each_rest IsSober (f s).items (h e).items (q r))
-            (at_on w (omega (arith, behind_is xs at)) z i));
+        (y.keeps e (behind xs at) z (λ r. each_rest IsSober (f s).items (h e).items (q r))
+        (at_on w (omega (arith, behind_is xs at)) z i));
   }
 
   pub numbered : {f : ℕ → Maker} {g : Walk} (pl : Place) → ((m : ℕ) → Keeps w (f m) g) → Keeps w (c.numbering pl f) g
@@ -292,11 +295,11 @@ module _ {w : Kind} where
         let b : ℕ = suc (behind p.states (suc at)) in
         let jump : Item = sure (o.Jump (past e (h e)).at) in
         either_goes w at z p.states (k b (option_map (other at) z)).states p.exit (k b (option_map (other at) z)).exit r
-            (x.keeps (next s) (suc at) (option_map (into at) z)
-            (λ u. each_first IsSober (f (next s)).items (jump ∷ (h e).items) (q u).1) (at_map (into at) (i at at) z r))
-            (y.keeps e b (option_map (other at) z)
-            (λ u. (each_rest IsSober (f (next s)).items (jump ∷ (h e).items) (q u).1).1)
-            (at_map (other at) (λ v m. suited_on (omega (arith, behind_is p.states (suc at))) (other at v) (j at at v m)) z r));
+        (x.keeps (next s) (suc at) (option_map (into at) z)
+        (λ u. each_first IsSober (f (next s)).items (jump ∷ (h e).items) (q u).1) (at_map (into at) (i at at) z r))
+        (y.keeps e b (option_map (other at) z)
+        (λ u. (each_rest IsSober (f (next s)).items (jump ∷ (h e).items) (q u).1).1)
+        (at_map (other at) (λ v m. suited_on (omega (arith, behind_is p.states (suc at))) (other at v) (j at at v m)) z r));
   }
 
   pub tries : {f : Maker} {g : Walk} → Keeps w f g → Keeps w (c.ahead o.Try f) (n.attempt g)
@@ -317,8 +320,8 @@ module _ {w : Kind} where
           let d : ℕ = deepest (f s).items in
           let out : ℕ = later d (past s (f s)).at in
           closed_goes w any at (g at z).deep (g at z).left (g at z).states z i
-              (x.keeps s at z (λ r. closed_sober out (f s).items
-              (each_first IsSober (map (closed out) (f s).items) (drops d (sure o.Unit ∷ [])) (q r))) i);
+          (x.keeps s at z (λ r. closed_sober out (f s).items
+          (each_first IsSober (map (closed out) (f s).items) (drops d (sure o.Unit ∷ [])) (q r))) i);
     }
 
     loop_keeps : {f : Maker} {g : Walk} → Keeps w f g → (a : ℕ) → Keeps w (loop_code f a) (loop_walk g)
@@ -349,7 +352,7 @@ module _ {w : Kind} where
         let is : List Item = sure (o.Jump (past e (arms e)).at) ∷ (arms e).items in
         let b : ℕ = later m (suc (suc at)) in
         group_goes w at m z (option_map (gives 0 a) z) (g b z).states i (at_map (gives 0 a) (given 0 a good at) z i)
-            (x.keeps e b z (λ r. (arms_sober (where_at e) is (q r).1).1) (at_on w (omega (arith, later_is m (suc (suc at)))) z i));
+        (x.keeps e b z (λ r. (arms_sober (where_at e) is (q r).1).1) (at_on w (omega (arith, later_is m (suc (suc at)))) z i));
   }
 
   -- an arm of a group

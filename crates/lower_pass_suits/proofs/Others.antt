@@ -1,6 +1,6 @@
 -- Suited states: what stands for no tree of its own.
-use Rattle.std.proofs.Common.{◌≡◌, ℕ, zero, suc, Bool, true, false, nat_lt, List, [], ◌∷◌, length, Option, Some, None, refl, ap, subst}
-use Rattle.std.proofs.lemmas.Option.{same_Some, none-some}
+use Rattle.std.proofs.Common.{◌≡◌, ℕ, zero, suc, Bool, true, false, nat_lt, List, [], ◌∷◌, length, Option, Some, None, refl}
+use Rattle.std.proofs.lemmas.Option.{none-some}
 use Rattle.verse_base.specs.declared.places.Place.{Place}
 use Rattle.verse_tree.specs.Tree.{Bytes, Tree, tree, Shape, Givens}
 use Rattle.verse_tree.specs.Tree as t
@@ -37,7 +37,6 @@ use Rattle.lower_notes.specs.Stretches as w
 use Rattle.lower_notes.specs.Applied as a
 use Rattle.lower_notes.specs.Noting as n
 use Rattle.lower_pass_suits.proofs.Suited.{Kind, Plain, popped, given, got, put, domain_taken, range_taken, turned, blocks_run}
-use Rattle.lower_pass_suits.proofs.Suited as suited
 use Rattle.lower_pass_suits.proofs.Kept.{Keeps, both, none, just, just_last, at_place, place_last, text, away, stops, just_ends, jumps}
 use Rattle.lower_pass_suits.proofs.Kept.{if_so, else_stuck, jumps_over, compares, turns}
 use Rattle.lower_pass_suits.proofs.Kept as kept
@@ -190,7 +189,8 @@ module _ {k : Kind} where
 
   -- ---- callees
 
-  pub callees : (b : Callee) {on_alone on_object on_value on_quotient : Form → Maker} {as_alone as_object as_value as_quotient : Form → Walk} →
+  pub callees : (b : Callee) {on_alone on_object on_value on_quotient : Form → Maker}
+      {as_alone as_object as_value as_quotient : Form → Walk} →
       ((x : Form) → Keeps k (on_alone x) (as_alone x)) → ((x : Form) → Keeps k (on_object x) (as_object x)) →
       ((x : Form) → Keeps k (on_value x) (as_value x)) → ((x : Form) → Keeps k (on_quotient x) (as_quotient x)) →
       Keeps k (l.by_callee b on_alone on_object on_value on_quotient) (n.by_callee b as_alone as_object as_value as_quotient)

@@ -1,5 +1,5 @@
 -- The sorts of notes can be spelled: those of wider levels, and those that are made of what is found.
-use Rattle.std.proofs.Common.{◌≡◌, ℕ, zero, suc, length, Option, Some, None, Bool, true, false, not, refl}
+use Rattle.std.proofs.Common.{ℕ, zero, suc, not}
 use Rattle.verse_code.specs.declared.codes.Code.{Code}
 use Rattle.verse_sorts.specs.Sorts as s
 use Rattle.verse_sorts.specs.Sorts.{Sort, Sorts}

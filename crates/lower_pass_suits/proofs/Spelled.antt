@@ -1,11 +1,10 @@
 -- What is asked of what the checker has found: that bytes can spell its sorts.
-use Rattle.std.specs.Prelude.{◌≡◌, ℕ, ◌<◌, List, length, Option, Some, slice_get}
+use Rattle.std.specs.Prelude.{◌≡◌, ℕ, ◌<◌, length, Some, slice_get}
 use Rattle.std.specs.Prelude.{All}
 use Rattle.verse_tree.specs.Tree.{Bytes}
 use Rattle.verse_tree.specs.declared.tables.ClassInfo.{ClassInfo}
 use Rattle.verse_code.specs.declared.codes.Code.{Code}
 use Rattle.verse_value.specs.Val.{enum}
-use Rattle.verse_sorts.specs.Sorts.{Sort}
 use Rattle.verse_meaning.specs.Programs.{Program, enum_value}
 use Rattle.verse_sound_rules.specs.Found.{Found}
 use Rattle.verse_verify_bytes.specs.Suits.{IsNumber, IsSort, SuitsSort}

@@ -1,32 +1,29 @@
 -- A state that is suited, and of which it is told where it stands, can be spelled.
-use Rattle.std.proofs.Common.{◌≡◌, ℕ, suc, ◌+◌, ◌≤◌, ◌<◌, length, map, List, [], ◌∷◌, ◌++◌, Option, Some, None, Bool, true, false, not, refl}
-use Rattle.std.proofs.Common.{All, sym, ap, ◌∙◌, subst, arith}
+use Rattle.std.proofs.Common.{◌≡◌, ℕ, suc, ◌≤◌, ◌<◌, length, List, [], ◌∷◌, ◌++◌, Option, Some, None, Bool, true, false, not, refl}
+use Rattle.std.proofs.Common.{sym, ap, ◌∙◌, subst, arith}
 use Rattle.std.specs.Prelude.{slice_get, IfSome}
 use Rattle.std.proofs.lemmas.Bool.{leb-true, and_parts}
-use Rattle.std.proofs.lemmas.Option.{none-some, slice_get_within}
+use Rattle.std.proofs.lemmas.Option.{slice_get_within}
 use Rattle.verse_code.specs.declared.codes.Code.{Code}
 use Rattle.verse_code.specs.declared.operations.Op.TheVariants as o
 use Rattle.verse_sorts.specs.Sorts.{Sort}
-use Rattle.verse_verify_kept.specs.Notes.{Notes, Point, point_at, live}
-use Rattle.verse_verify_kept.specs.Rules.{Around, around_no, around_so, Ready, ready_no, ready_so}
-use Rattle.verse_verify_faults.specs.Spots.{Mark, Spot, even}
+use Rattle.verse_verify_kept.specs.Notes.{Notes, Point, point_at}
+use Rattle.verse_verify_kept.specs.Rules.{Around, around_so, Ready, ready_so}
+use Rattle.verse_verify_faults.specs.Spots.{Mark, even}
 use Rattle.verse_verify_faults.specs.Reading.{defers_in, locals_of}
-use Rattle.verse_verify_bytes.specs.Suits.{IsNumber, SuitsSort, IsIndex, SuitsMark, SuitsBlocks, HasNoBlocks, Blocks, SuitsSpot}
+use Rattle.verse_verify_bytes.specs.Suits.{IsNumber, SuitsSort, IsIndex, SuitsMark, Blocks, SuitsSpot}
 use Rattle.lower_bounds.proofs.Lists.{Each, each_first, each_rest}
 use Rattle.lower_bounds.proofs.Bodies.{each_all}
 use Rattle.lower_notes.specs.States.{State, Deferred, spot_of, indices}
 use Rattle.lower_pass_states.proofs.Points.{pt, opened, names_of}
 use Rattle.lower_pass_states.proofs.Meeting.{Held, entries}
+use Rattle.lower_pass_programs.proofs.Whole.{live_is}
 use Rattle.lower_pass_suits.proofs.Suited.{Suited, HasNone}
 use Rattle.lower_pass_suits.proofs.Sorted.{kind}
 
 pub if_some : {A : Type 0} (P : A → Type 0) (x : Option A) → ((a : A) → x ≡ Some a → P a) → IfSome x P
 if_some P None h = tt
 if_some P (Some a) h = h a refl
-
-live_is : (x : Option (Option Point)) (q : Point) → live x ≡ Some q → x ≡ Some (Some q)
-live_is None q e = elim (none-some _ e) [ ]
-live_is (Some x) q e = ap (λ z. Some z) e
 
 entries_length : (ds : List Deferred) → length (entries ds) ≡ length ds
 entries_length [] = refl

@@ -1,7 +1,7 @@
 -- What is kept of each state that is noted: its sorts are of a kind, its stack and what is open or
 -- deferred are no more than so many, and where the code defers nothing there is nothing of blocks.
-use Rattle.std.proofs.Common.{◌≡◌, ℕ, zero, suc, ◌+◌, ◌-◌, ◌≤◌, length, drop, List, [], ◌∷◌, ◌++◌, Option, Some, None, Bool, true, refl}
-use Rattle.std.proofs.Common.{sym, ap, ◌∙◌, arith, length-append}
+use Rattle.std.proofs.Common.{◌≡◌, ℕ, zero, suc, ◌+◌, ◌-◌, ◌≤◌, length, drop, List, [], ◌∷◌, Option, Some, None, Bool, true, refl}
+use Rattle.std.proofs.Common.{ap, ◌∙◌, arith, length-append, length-drop}
 use Rattle.std.specs.Prelude.{option_map, IfSome}
 use Rattle.verse_sorts.specs.Sorts as s
 use Rattle.verse_sorts.specs.Sorts.{Sort}
@@ -33,12 +33,6 @@ pub record Plain (w : Kind) : Type 0 where
   pub text : w.Good (s.list s.char)
 
 -- ---- lists
-
-drop_fewer : {A : Type 0} (n : ℕ) (xs : List A) → length (drop n xs) ≤ length xs
-drop_fewer zero [] = omega arith
-drop_fewer zero (x ∷ xs) = omega arith
-drop_fewer (suc n) [] = omega arith
-drop_fewer (suc n) (x ∷ xs) = omega (arith, drop_fewer n xs)
 
 each_drop : {A : Type 0} (P : A → Type 0) (n : ℕ) (xs : List A) → Each P xs → Each P (drop n xs)
 each_drop P zero [] h = tt
@@ -191,11 +185,11 @@ module _ {w : Kind} where
   stays n x h = suited_on (omega arith) x h
 
   pub popped : (k : ℕ) → Keeping w (pops k)
-  popped k n x h = with_operands x (drop k x.stack) (omega arith) (omega (arith, drop_fewer k x.stack, h.operands))
+  popped k n x h = with_operands x (drop k x.stack) (omega arith) (omega (arith, length-drop k x.stack, h.operands))
       (each_drop w.Good k x.stack h.stack) h
 
   pub given : (k : ℕ) (a : Sort) → w.Good a → Keeping w (gives k a)
-  given k a g n x h = with_operands x (a ∷ drop k x.stack) (omega arith) (omega (arith, drop_fewer k x.stack, h.operands))
+  given k a g n x h = with_operands x (a ∷ drop k x.stack) (omega arith) (omega (arith, length-drop k x.stack, h.operands))
       (g, each_drop w.Good k x.stack h.stack) h
 
   -- in the place of one operand
@@ -214,17 +208,17 @@ module _ {w : Kind} where
 
   pub put : (l : ℕ) (a : Sort) → w.Good a → Keeping w (puts l a)
   put l a g n x h = with_both x (drop 1 x.stack) (with_local l a x.locals) (omega arith)
-      (omega (arith, drop_fewer 1 x.stack, h.operands)) (each_drop w.Good 1 x.stack h.stack) (with_locals w.Good l x.locals g h.locals) h
+      (omega (arith, length-drop 1 x.stack, h.operands)) (each_drop w.Good 1 x.stack h.stack) (with_locals w.Good l x.locals g h.locals) h
 
   pub domain_taken : Plain w → (l : ℕ) → Keeping w (takes_domain l)
   domain_taken g l n x h = with_both x (drop 1 x.stack) (with_local (suc l) s.int (with_local l (top x.stack) x.locals)) (omega arith)
-      (omega (arith, drop_fewer 1 x.stack, h.operands)) (each_drop w.Good 1 x.stack h.stack)
+      (omega (arith, length-drop 1 x.stack, h.operands)) (each_drop w.Good 1 x.stack h.stack)
       (with_locals w.Good (suc l) (with_local l (top x.stack) x.locals) g.int
       (with_locals w.Good l x.locals (top_good w.Good g.any x.stack h.stack) h.locals)) h
 
   pub range_taken : Plain w → (l : ℕ) → Keeping w (takes_range l)
   range_taken g l n x h = with_both x (drop 2 x.stack) (with_local (suc l) s.int (with_local l s.span x.locals)) (omega arith)
-      (omega (arith, drop_fewer 2 x.stack, h.operands)) (each_drop w.Good 2 x.stack h.stack)
+      (omega (arith, length-drop 2 x.stack, h.operands)) (each_drop w.Good 2 x.stack h.stack)
       (with_locals w.Good (suc l) (with_local l s.span x.locals) g.int (with_locals w.Good l x.locals g.span h.locals)) h
 
   pub turned : (l : ℕ) (a b : Sort) → w.Good a → w.Good b → Keeping w (turns_with l a b)
@@ -252,7 +246,7 @@ module _ {w : Kind} where
   try_opened at n x h = with_tries x (record { index = at; height = length x.stack } ∷ x.tries) (omega arith) h
 
   pub try_closed : Keeping w untried
-  try_closed n x h = with_tries x (drop 1 x.tries) (omega (arith, drop_fewer 1 x.tries)) h
+  try_closed n x h = with_tries x (drop 1 x.tries) (omega (arith, length-drop 1 x.tries)) h
 
   -- ---- arms and deferred blocks
 
@@ -306,7 +300,7 @@ module _ {w : Kind} where
     operands = omega (arith, h.operands);
     stack = h.stack;
     tries = omega (arith, h.tries);
-    blocks = omega (arith, h.blocks, drop_fewer m x.defers);
+    blocks = omega (arith, h.blocks, length-drop m x.defers);
     defers = each_drop (Behind w) m x.defers h.defers;
     none = λ e.
         let z = h.none e in

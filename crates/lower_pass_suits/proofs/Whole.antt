@@ -5,13 +5,9 @@ use Rattle.std.proofs.Common.{length-append}
 use Rattle.std.specs.Prelude.{slice_get, option_map, IfSome, nat_lt}
 use Rattle.std.specs.List.{AllZip}
 use Rattle.std.proofs.lemmas.List.{length-map}
-use Rattle.std.proofs.lemmas.List.Elements.{All-head, All-tail}
-use Rattle.std.proofs.lemmas.Option.{same_Some, none-some, slice_get_within}
+use Rattle.std.proofs.lemmas.Option.{same_Some, none-some}
 use Rattle.verse_base.proofs.Facts.{mapped_get, get_within}
-use Rattle.verse_tree.specs.ItemTree.{ItemTree}
 use Rattle.verse_tree.specs.PostOrder.{items_order}
-use Rattle.verse_tree.specs.declared.tables.ClassInfo.{ClassInfo}
-use Rattle.verse_code.specs.declared.operations.Op.{Op}
 use Rattle.verse_code.specs.declared.operations.Op.TheVariants as o
 use Rattle.verse_code.specs.declared.codes.Class.{Class}
 use Rattle.verse_code.specs.declared.codes.Func.{Func}
@@ -30,8 +26,8 @@ use Rattle.verse_verify_kept.specs.Rules.{nones}
 use Rattle.verse_verify_faults.specs.Spots as spots
 use Rattle.verse_verify_faults.specs.Spots.{Spot}
 use Rattle.verse_verify_faults.specs.Reading.{defers_in, locals_of}
-use Rattle.verse_verify_bytes.specs.Suits.{IsNumber, SuitsSort, So_many, SuitsClass, SuitsFunction, SuitsSpot, Suits}
-use Rattle.lower_code.specs.Pieces.{Item, sure, leaving, Spot as Place_of, past, behind}
+use Rattle.verse_verify_bytes.specs.Suits.{IsNumber, SuitsSort, SuitsClass, SuitsFunction, SuitsSpot, Suits}
+use Rattle.lower_code.specs.Pieces.{Item, sure, Spot as Place_of, past, behind}
 use Rattle.lower_code.specs.Arounds.{fresh}
 use Rattle.lower_code.specs.Defaults.{defaults_in}
 use Rattle.lower_code.specs.Programs as c
@@ -42,20 +38,21 @@ use Rattle.lower_bounds.proofs.Bodies.{each_all, all_each}
 use Rattle.lower_simulation_runs.specs.Programs.{NodeStands, NumbersAgree}
 use Rattle.lower_sound.specs.Programs.{ItemsFound}
 use Rattle.lower_notes.specs.States.{State, spot_of}
-use Rattle.lower_notes.specs.Stretches.{Walk, Stretch, ends}
+use Rattle.lower_notes.specs.Stretches.{ends}
 use Rattle.lower_notes.specs.Noting.{walk}
 use Rattle.lower_notes.specs.Programs as n
 use Rattle.lower_notes.specs.Programs.{signed, with_this, params_of, at_entry}
 use Rattle.lower_notes.proofs.Whole.{one_for_each}
-use Rattle.lower_notes.proofs.Counted.{code_then, walk_then}
+use Rattle.lower_notes.proofs.Counted.{walk_then}
 use Rattle.lower_pass_programs.proofs.Telling.{Told}
 use Rattle.lower_pass_programs.proofs.Declared as declared
 use Rattle.lower_pass_programs.proofs.Declared.{noted_class, class_within, class_is}
+use Rattle.lower_pass_programs.proofs.Entries.{nones_many}
 use Rattle.lower_pass_programs.proofs.Bodies.{Knot}
 use Rattle.lower_pass_programs.proofs.Whole.{held_states, verified}
 use Rattle.lower_pass_suits.proofs.Spelled.{Spelled}
-use Rattle.lower_pass_suits.proofs.Suited.{Kind, Locals, Suited, SuitedAt, at_on}
-use Rattle.lower_pass_suits.proofs.Kept.{Keeps, Goes, IsSober, Sober, both, just_ends}
+use Rattle.lower_pass_suits.proofs.Suited.{Suited, SuitedAt, at_on}
+use Rattle.lower_pass_suits.proofs.Kept.{Goes, IsSober, Sober, both, just_ends}
 use Rattle.lower_pass_suits.proofs.Forms.{trees}
 use Rattle.lower_pass_suits.proofs.Sorted.{kind, sort_spelled, made_of}
 use Rattle.lower_pass_suits.proofs.Spots.{if_some, suits_spot}
@@ -104,10 +101,6 @@ is_false false e = refl
 
 -- ---- locals at an entry
 
-nones_many : (m : ℕ) → length (nones m) ≡ m
-nones_many zero = refl
-nones_many (suc m) = ap suc (nones_many m)
-
 nones_each : (P : Sort → Type 0) → P s.none → (m : ℕ) → Each P (nones m)
 nones_each P h zero = tt
 nones_each P h (suc m) = (h, nones_each P h m)
@@ -143,11 +136,14 @@ module _ (p : Program) (found : rules.Found) (differ : ℕ → ℕ → Bool) (fi
 
     declared_spelled : (k : ℕ) (bs : List Body) → Each Spells (n.declared found k bs)
     declared_spelled k [] = tt
-    declared_spelled k (b ∷ bs) = (record {
-      params = this_spelled (found.signature k).this (found.signature k).params (spelled.this k)
-          (all_each (SuitsSort code) (found.signature k).params (spelled.params k));
-      result = spelled.result k;
-    }, declared_spelled (suc k) bs)
+    declared_spelled k (b ∷ bs) = (
+      record {
+        params = this_spelled (found.signature k).this (found.signature k).params (spelled.this k)
+            (all_each (SuitsSort code) (found.signature k).params (spelled.params k));
+        result = spelled.result k;
+      },
+      declared_spelled (suc k) bs,
+    )
 
     all_spelled : Each Spells notes.functions
     all_spelled = each_joined Spells (n.declared found 0 (bodies_in p.items))
@@ -242,9 +238,9 @@ module _ (p : Program) (found : rules.Found) (differ : ℕ → ℕ → Bool) (fi
         let ys : List (Option State) = (n.bodies_from p found differ code (suc k) bs (behind xs at) y).states in
         let r : Place_of = past s (c.body_piece p differ b s) in
         let one = body_goes k b s at (h k (omega (arith, l)))
-            (λ e. each_first IsSober (c.body_piece p differ b s).items (c.bodies_from p differ bs r).items (q e)) in
+        (λ e. each_first IsSober (c.body_piece p differ b s).items (c.bodies_from p differ bs r).items (q e)) in
         let more = bodies_go bs (suc k) r (behind xs at) y (omega (arith, l)) h
-            (λ e. each_rest IsSober (c.body_piece p differ b s).items (c.bodies_from p differ bs r).items (q e)) in
+        (λ e. each_rest IsSober (c.body_piece p differ b s).items (c.bodies_from p differ bs r).items (q e)) in
         each_joined (PlacedAt (at + length (xs ++ ys))) xs ys
         (each_weaker (placed k (omega (arith, l)) (omega (arith, length-append xs ys))) xs one.states)
         (each_weaker (further (omega (arith, length-append xs ys, behind_is xs at))) ys more)
@@ -265,7 +261,7 @@ module _ (p : Program) (found : rules.Found) (differ : ℕ → ℕ → Bool) (fi
           let g = get_within notes.functions k (omega (arith, l, functions_many)) in
           let is = function_is k f.0 g.0 f.1 g.1 in
           let fits = at_each (IsFunction (length code.ops)) code.functions k f.0 f.1
-              (all_each (IsFunction (length code.ops)) code.functions valid.functions) in
+          (all_each (IsFunction (length code.ops)) code.functions valid.functions) in
           subst (λ (z : Option FuncNote). (length (params_of z) ≤ locals_of code (slice_get code.functions k)) ×
           Each (SuitsSort code) (params_of z)) (sym g.1) (
             subst (λ (z : Option Func). length g.0.params ≤ locals_of code z) (sym f.1)
@@ -305,8 +301,8 @@ module _ (p : Program) (found : rules.Found) (differ : ℕ → ℕ → Bool) (fi
           subst (λ z. IfSome z (SuitsSpot code)) x.2
           (spot_is i x.0 x.1 (at_each (PlacedAt (0 + length states)) states i x.0 x.1 all_placed)))
 
-      pub suits_of : Suits (code_of p differ files) (n.notes_of p found differ (code_of p differ files))
-      suits_of =
+      all_suit : Suits code (n.notes_of p found differ code)
+      all_suit =
           let counts = (one_for_each p found differ).whole files in
           record {
             classes = zipped (SuitsClass code) code.classes notes.classes counts.classes (class_suits told);
@@ -314,3 +310,11 @@ module _ (p : Program) (found : rules.Found) (differ : ℕ → ℕ → Bool) (fi
             spots = counts.spots;
             each_spot = each_all (λ x. IfSome x (SuitsSpot code)) (map (option_map spot_of) states) spots_are;
           }
+
+module _ (p : Program) (found : rules.Found) (differ : ℕ → ℕ → Bool) (files : ℕ) (numbers : NumbersAgree p)
+    (nodes : All (NodeStands p) (items_order p.items)) (items : ItemsFound p found p.items) (told : Told p found)
+    (fine : FineFound p found) (knot : Knot p found differ files) where
+  -- bytes can spell the notes of the program
+  pub suits_of : Valid (code_of p differ files) → Spelled p found (code_of p differ files) →
+      Suits (code_of p differ files) (n.notes_of p found differ (code_of p differ files))
+  suits_of valid spelled = all_suit p found differ files spelled numbers nodes items told fine knot valid

@@ -4,11 +4,6 @@
 //! To be read in this order, in `proofs/`: `Spelled`, what is asked of what the checker has found;
 //! `Suited`, what is kept of each state that is noted, and the changes that keep it; `Kept`, the
 //! stretches that do, combinator by combinator; `Others`, what stands for no tree of its own;
-//! `Forms`, one clause a form; `Whole`, the notes of a program.
+//! `Forms`, one clause a form; `Sorted`, the sorts that states are made of; `Spots`, that a state
+//! which is suited can be spelled; `Whole`, the notes of a program.
 #![tactic(auto)]
-
-ghost use Rattle.lower_pass_suits.specs.Trying.{Holds};
-
-pub fn try_it()
-    ensures { Holds }
-{}

@@ -78,7 +78,7 @@ module _ (spelled : AcceptedSpelled) (enums : AcceptedEnums) (agree : TablesAgre
         let notes : Table = notes_from made count in
         let ready : IsReady p found differ count = accepted_ready order shapes follows programs agree files made some few a told in
         let fits : Valid code = valid p differ count ready.can.lowered in
-        let suits : Suits code notes = suits_of p found differ count (accepted_spelled files made a told count)
-            ready.can.numbers ready.can.nodes ready.items ready.told ready.fine (trees p found differ count count ready) fits in
+        let suits : Suits code notes = suits_of p found differ count ready.can.numbers ready.can.nodes ready.items ready.told
+        ready.fine (trees p found differ count count ready) fits (accepted_spelled files made a told count) in
         ap (fault_in code (length (bytes_from made count))) (read code notes fits suits)
         ∙ clean files made some few a told count
