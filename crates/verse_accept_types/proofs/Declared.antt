@@ -51,7 +51,7 @@ use Rattle.verse_accept_types.proofs.Refs.{classes_count, enums_count, outline_c
 
 -- ---- at the own node of each function and method
 
-get_both : {A : Type 0} (P : A → Type 0) (xs ys : List A) → ((i : ℕ) (x : A) → slice_get xs i ≡ Some x → P x) →
+pub get_both : {A : Type 0} (P : A → Type 0) (xs ys : List A) → ((i : ℕ) (x : A) → slice_get xs i ≡ Some x → P x) →
     ((i : ℕ) (x : A) → slice_get ys i ≡ Some x → P x) → (i : ℕ) (x : A) → slice_get (xs ++ ys) i ≡ Some x → P x
 get_both P [] ys f g i x e = g i x e
 get_both P (z ∷ xs) ys f g zero x e = f zero x e

@@ -2,6 +2,6 @@ mod Bounds
 mod Joins
 mod Rows
 mod Steps
-mod Refs
-mod Declared
+pub mod Refs
+pub mod Declared
 pub mod Whole

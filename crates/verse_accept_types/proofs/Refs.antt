@@ -37,7 +37,7 @@ enums_few (enumeration e ∷ is) = omega (arith, enums_few is)
 enums_few (class c ∷ is) = omega (arith, enums_few is)
 enums_few (function f ∷ is) = omega (arith, enums_few is)
 
-enums_many : (is : List ItemTree) → length (enums is) ≡ length (enum_tables is)
+pub enums_many : (is : List ItemTree) → length (enums is) ≡ length (enum_tables is)
 enums_many [] = refl
 enums_many (using u ∷ is) = enums_many is
 enums_many (enumeration e ∷ is) = ap suc (enums_many is)
@@ -54,7 +54,7 @@ module _ (is : List ItemTree) where
   abbrev Known : Option Ref → Type 0
   Known = RefNamed classes_count enums_count
 
-  notes_count : length (known is).notes ≡ classes_count
+  pub notes_count : length (known is).notes ≡ classes_count
   notes_count = notes_many is ∙ sym (classes_many is)
 
   pub outline_count : length (known is).outline ≡ classes_count
