@@ -71,10 +71,10 @@ module _ (files : ℕ) where
         let r = type_fits d f.1 in
         let q = type_fits e r.1.1 in
         (record { fit = λ n. both files _ _ (r.0.fit n) (q.0.fit _); narrow = λ n. (r.0.narrow n, q.0.narrow _) }, q.1)
-    type_fits (y.IsType.type_tuple {ws = ws} h ho d hs ds hc) f =
+    type_fits (y.IsType.type_tuple {w = w} {ws = ws} h ho d hs ds hc) f =
         let r = type_fits d f.1.1 in
         let q = types_fit ds r.1.1 in
-        let all = fine_writtens files (_ ∷ ws) (omega (arith, types_long ds, r.1.2)) (r.0, q.0) in
+        let all = fine_writtens files (w ∷ ws) (omega (arith, types_long ds, r.1.2)) (r.0, q.0) in
         (record { fit = λ n. all.fit n; narrow = λ n. (all.many n, all.narrow n) }, q.1.1)
     type_fits (y.IsType.type_task h ho d hc) f =
         let r = type_fits d f.1.1 in (record { fit = λ n. r.0.fit n; narrow = λ n. r.0.narrow n }, r.1.1)
@@ -159,11 +159,11 @@ module _ (files : ℕ) where
           let all = fine_givens files gs r.0 in
           (fine files f.0.place (λ n. tt) (λ n. all.fit n), r.1)
       phrase_fits (x.Reads.brackets h d hc) f = let r = phrase_fits d f.1 in (r.0, r.1.1)
-      phrase_fits (x.Reads.tuple {es = es} h d hs e) f =
+      phrase_fits (x.Reads.tuple {e = t} {es = es} h d hs e) f =
           let r = phrase_fits d f.1 in
           let q = closed_fits e r.1.1 in
           let all = fine_trees files (_ ∷ es) (r.0, q.0) in
-          (fine files f.0.place (λ n. few_parts (trees (_ ∷ es)) n n) (λ n. all.fit n), q.1)
+          (fine files f.0.place (λ n. few_parts (trees (t ∷ es)) n n) (λ n. all.fit n), q.1)
       phrase_fits (x.Reads.array {es = es} h ho d) f =
           let r = until_fits d f.1.1 in
           let all = fine_trees files es r.0 in

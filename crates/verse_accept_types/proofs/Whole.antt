@@ -288,7 +288,9 @@ module _ (shapes : AcceptedShaped) (files : List (List ℕ)) (made : Made) where
         omega (arith, many, as_written, size)
 
     enums_low : IsNumber (enums_count own)
-    enums_low = omega (arith, enums_few own, size)
+    enums_low =
+        let fewer : length (completed own).enums ≤ items_nodes own = enums_few own in
+        omega (arith, fewer, size)
 
     types_are_told : TypesTold own
     types_are_told = types_told own (shapes files own a) numbered sound (each_narrow files own a) order_few enums_low
