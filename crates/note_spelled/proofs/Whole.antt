@@ -17,7 +17,9 @@ use Rattle.verse_names_declarations.specs.Counting.{counted, counts_after, no_co
 use Rattle.verse_names_declarations.specs.declared.counting.Counts.{Counts}
 use Rattle.verse_names_declarations.specs.Known.{notes, known}
 use Rattle.verse_check_typing.specs.Members.{fields_in}
-use Rattle.verse_rules.specs.Sound.{completed}
+use Rattle.verse_check_typing.specs.Facts.{type_at}
+use Rattle.verse_check_typing.specs.Loops.{index_of}
+use Rattle.verse_rules.specs.Sound.{completed, types_of}
 use Rattle.verse_value.specs.Val.{Val, enum}
 use Rattle.verse_meaning.specs.Programs.{enums, place_of, enum_val, value_in}
 use Rattle.verse_meaning_state.specs.Waits.{nth}
@@ -101,19 +103,22 @@ module _ (is : List ItemTree) (told : TypesTold is) (c : Code) (same : length c.
   class_is None k e = elim (none-some k e) [ ]
   class_is (Some p) k e = (p, refl, e)
 
+  abbrev owner : ℕ → Option ℕ
+  owner g = class_in (slice_get (owned (known is).items) g)
+
   this_within : (g k : ℕ) → ((sorted is).signature g).this ≡ Some k → k < length c.classes
   this_within g k e =
-      let o = class_is (slice_get (owned (known is).items) g) k (this_is (slice_get (completed is).funs g) _ k e) in
+      let o = class_is (slice_get (owned (known is).items) g) k (this_is (slice_get (completed is).funs g) (owner g) k e) in
       let few : 0 + length (known is).notes ≤ length c.classes = omega (arith, notes_count is, same) in
       owned_within (length c.classes) no_counts is few g o.0 o.1 k o.2
 
   spelled : AreSpelled c levels (sorted is)
   spelled = record {
-    sort = λ n. of_type _ (told.found n);
-    key = λ n. of_type _ (told.index (n - 1));
+    sort = λ n. of_type (type_at (types_of is) n) (told.found n);
+    key = λ n. of_type (index_of (type_at (types_of is) (n - 1))) (told.index (n - 1));
     slots = λ k. slots_of (slice_get (completed is).classes k) (told.fields k);
-    params = λ g. params_of (slice_get (completed is).funs g) _ (told.params g);
-    result = λ g. result_of (slice_get (completed is).funs g) _ (told.result g);
+    params = λ g. params_of (slice_get (completed is).funs g) (owner g) (told.params g);
+    result = λ g. result_of (slice_get (completed is).funs g) (owner g) (told.result g);
     this = this_within;
   }
 
@@ -123,12 +128,12 @@ accepted_spelled types files made a c same levels deep = spelled (map item_of ma
 -- ---- enums
 
 enum_is : (e k i : ℕ) (o : Option ℕ) → enum_val e o ≡ Some (enum k i) → e ≡ k
-enum_is e k i None h = elim (none-some _ h) [ ]
+enum_is e k i None h = elim (none-some (enum k i) h) [ ]
 enum_is e k i (Some j) h = cc
 
 value_within : (is : List ItemTree) (e k i : ℕ) (x : Bytes) (o : Option EnumTree) → slice_get (enums is) e ≡ o →
     value_in e x o ≡ Some (enum k i) → k < length (enums is)
-value_within is e k i x None there h = elim (none-some _ h) [ ]
+value_within is e k i x None there h = elim (none-some (enum k i) h) [ ]
 value_within is e k i x (Some d) there h =
     subst (λ n. n < length (enums is)) (enum_is e k i (place_of x d.values) h) (slice_get_within (enums is) e d there)
 

@@ -14,7 +14,6 @@ use Rattle.verse_tree.specs.Shapes.{ItemsShaped}
 use Rattle.verse_tree.specs.Numbering.{items_nodes, items_numbered, program_nodes}
 use Rattle.verse_tree.specs.Numbers.{numbers}
 use Rattle.verse_tree.specs.PostOrder.{What, program, item, member, parameter, type_name, expression, items_order}
-use Rattle.verse_tree.specs.PostOrder as plain
 use Rattle.verse_tree.specs.declared.programs.Program.{Program as Made}
 use Rattle.verse_tree.specs.declared.tables.Ty.{Ty as MadeTy}
 use Rattle.verse_tree.specs.declared.tables.FunInfo.{FunInfo}
@@ -36,7 +35,6 @@ use Rattle.verse_names_declarations.specs.Known.{known}
 use Rattle.verse_names_scopes.specs.Visible.{World}
 use Rattle.verse_names_scopes.specs.Visible as visible
 use Rattle.verse_names_scopes.specs.Subjects.{locals_behind}
-use Rattle.verse_check_typing.specs.Facts as f
 use Rattle.verse_check_typing.specs.Facts.{world_of, type_at}
 use Rattle.verse_check_typing.specs.Loops.{index_of}
 use Rattle.verse_check_typing.specs.Members.{fields_in}
@@ -53,7 +51,7 @@ use Rattle.verse_accept_nodes.specs.Laws.{AcceptedShaped}
 use Rattle.verse_accept_nodes.proofs.Fine.{WhatNarrow, NodeNarrow}
 use Rattle.verse_accept_nodes.proofs.Accepted.{each_narrow}
 use Rattle.verse_accept_scopes.specs.Lists.{Each}
-use Rattle.verse_accept_scopes.specs.Sites.{Site, node_of, program_sites, item_site, member_site, param_subject}
+use Rattle.verse_accept_scopes.specs.Sites.{Site, node_of, program_sites, item_site, member_site, param_subject, params_behind}
 use Rattle.verse_accept_scopes.specs.Holding.{OnParams, OnFun}
 use Rattle.verse_accept_scopes.proofs.Whole.{walked_are_sites, holds_on_items}
 use Rattle.verse_accept_scopes.proofs.Rows.{Row, row_of, all_below}
@@ -150,26 +148,26 @@ module _ (is : List ItemTree) (shaped : ItemsShaped is) (numbered : AreNumbered 
   event_good u h = inner_good (classes_count is) (enums_count is) u (levels (t.event u)) h.0 (omega arith) h.1
 
   shape_told : (n : ℕ) (x : Shape) → Fair (type_by (final is) n (expression x)) → ShapeTold is x
-  shape_told n (s.Shape.typed x w e) h = told _ h
-  shape_told n (s.Shape.variable x w e) h = told _ h
-  shape_told n (s.Shape.event w) h = told _ (event_good _ h)
+  shape_told n (s.Shape.typed x w e) h = told (spelled_by (named is).refs w) h
+  shape_told n (s.Shape.variable x w e) h = told (spelled_by (named is).refs w) h
+  shape_told n (s.Shape.event w) h = told (spelled_by (named is).refs w) (event_good (spelled_by (named is).refs w) h)
   shape_told n x h = tt
 
   item_told : (n : ℕ) (i : ItemTree) → Fair (type_by (final is) n (item i)) → ItemTold is i
   item_told n (using u) h = tt
   item_told n (enumeration e) h = tt
   item_told n (class c) h = tt
-  item_told n (function d) h = told _ h
+  item_told n (function d) h = told (spelled_by (named is).refs d.written) h
 
   member_told : (n : ℕ) (m : MemberTree) → Fair (type_by (final is) n (member m)) → MemberTold is m
-  member_told n (field d) h = told _ h
-  member_told n (method d) h = told _ h
+  member_told n (field d) h = told (spelled_by (named is).refs d.written) h
+  member_told n (method d) h = told (spelled_by (named is).refs d.written) h
 
   what_told : (n : ℕ) (x : What) → Fair (type_by (final is) n x) → WhatTold is x
   what_told n (expression x) h = shape_told n x h
   what_told n (item i) h = item_told n i h
   what_told n (member m) h = member_told n m h
-  what_told n (parameter q) h = told _ h
+  what_told n (parameter q) h = told (spelled_by (named is).refs q.written) h
   what_told n (type_name x) h = tt
   what_told n (program js) h = tt
 
@@ -220,8 +218,9 @@ module _ (is : List ItemTree) (shaped : ItemsShaped is) (numbered : AreNumbered 
   function_result : (g : ℕ) (i : FunInfo) → slice_get (completed is).funs g ≡ Some i → MadeTold is i.result
   function_result g i e =
       let o = owner_of is g i e in
+      let w : World = world_in (known is) o.0.class in
       subst (λ (j : FunInfo). MadeTold is j.result) o.2
-      (made_told o.0.tree.written (all_written_agrees is (world_in (known is) o.0.class) (world_types o.0.class) outside false _
+      (made_told o.0.tree.written (all_written_agrees is w (world_types o.0.class) outside false (params_behind w o.0.tree.params [])
       o.0.tree.written (body g o.0 o.1).1) (result_good g o.0 o.1))
 
   all_mapped : (ds : List FieldTree) → ((i : ℕ) (d : FieldTree) → slice_get ds i ≡ Some d → FieldTold is (info_of is d)) →
@@ -243,8 +242,9 @@ module _ (is : List ItemTree) (shaped : ItemsShaped is) (numbered : AreNumbered 
   pub types_told : TypesTold is
   types_told = record {
     enums = few_enums;
-    found = λ n. told _ (found_good n);
-    index = λ n. told _ (index_good (classes_count is) (enums_count is) _ (found_good n));
+    found = λ n. told (type_at (types_of is) n) (found_good n);
+    index = λ n. told (index_of (type_at (types_of is) n))
+        (index_good (classes_count is) (enums_count is) (type_at (types_of is) n) (found_good n));
     params = function_params;
     result = function_result;
     fields = class_fields;
