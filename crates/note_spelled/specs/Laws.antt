@@ -25,11 +25,13 @@ module _ (c : Code) (levels : ℕ) where
 
 -- in a code that has as many classes as the program
 abbrev pub AcceptedSpelled : Type 0
-AcceptedSpelled = (files : List (List ℕ)) (made : Made) → Accepts files (map item_of made.tree.items) →
+AcceptedSpelled = (files : List (List ℕ)) (made : Made) →
+    Accepts files (map item_of made.tree.items) →
     (c : Code) → length c.classes ≡ length (completed (map item_of made.tree.items)).classes →
     (levels : ℕ) → 32 ≤ levels → AreSpelled c levels (sorted (map item_of made.tree.items))
 
 -- and enums are numbered by numbers of 32 bits
 abbrev pub AcceptedEnums : Type 0
-AcceptedEnums = (files : List (List ℕ)) (made : Made) → Accepts files (map item_of made.tree.items) →
-    (e k i : ℕ) (x : Bytes) → enum_value (program_of made) e x ≡ Some (enum k i) → IsNumber k
+AcceptedEnums = (files : List (List ℕ)) (made : Made) →
+    Accepts files (map item_of made.tree.items) → (e k i : ℕ) (x : Bytes) →
+    enum_value (program_of made) e x ≡ Some (enum k i) → IsNumber k

@@ -8,8 +8,8 @@ ghost use Rattle.note_spelled.specs.Laws.{AcceptedEnums, AcceptedSpelled};
 
 use verse_accept_types::accepted_types_are_told;
 
-/// Each sort that is found of an accepted program has at most 32 levels and classes of the code, and
-/// bytes can spell it; and the class of `Self` is one of the code.
+/// Each sort that is found of an accepted program has at most 32 levels and classes of the code,
+/// and bytes can spell it; and the class of `Self` is one of the code.
 pub fn accepted_sorts_are_spelled()
     ensures { AcceptedSpelled }
 {

@@ -6,7 +6,8 @@ use Rattle.verse_tree.specs.Tree.{Holes, Pairs, Givens}
 use Rattle.verse_tree.specs.Tree as t
 use Rattle.verse_tree.specs.ItemTree.{MemberTree, field, method, ItemTree, function}
 use Rattle.verse_tree.specs.View.{writtens, trees, holes, pairs, givens}
-use Rattle.verse_tree.specs.PostOrder.{Node, What, expression, parameter, item, member, written_order, writtens_order, post_order, parts, trees_order}
+use Rattle.verse_tree.specs.PostOrder.{Node, What, expression, parameter, item, member, written_order, writtens_order, post_order, parts}
+use Rattle.verse_tree.specs.PostOrder.{trees_order}
 use Rattle.verse_tree.specs.PostOrder.{holes_order}
 use Rattle.verse_tree.specs.PostOrder.{pairs_order, givens_order}
 use Rattle.verse_tree.specs.Numbering.{written_nodes, written_numbered, writtens_numbered, nodes, shape_nodes, trees_nodes, numbered}

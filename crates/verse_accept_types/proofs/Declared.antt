@@ -1,11 +1,13 @@
 -- The tables of functions and fields, where what is written is narrow; and where no rule is broken.
-use Rattle.std.proofs.Common.{◌≡◌, ℕ, zero, suc, ◌<◌, ◌≤◌, List, [], ◌∷◌, ◌++◌, map, length, Option, Some, None, All, refl, sym, ap, ◌∙◌, subst, arith}
+use Rattle.std.proofs.Common.{◌≡◌, ℕ, zero, suc, ◌<◌, ◌≤◌, List, [], ◌∷◌, ◌++◌, map, length, Option, Some, None, All, refl, sym, ap, ◌∙◌}
+use Rattle.std.proofs.Common.{subst, arith}
 use Rattle.std.specs.Prelude.{slice_get}
 use Rattle.std.proofs.lemmas.List.Elements.{All-nil, All-cons}
 use Rattle.std.proofs.lemmas.Option.{same_Some, none-some}
 use Rattle.verse_tree.specs.Tree.{Bytes, Written, Writtens, no_writtens, more_writtens}
 use Rattle.verse_tree.specs.Tree as s
-use Rattle.verse_tree.specs.ItemTree.{FieldTree, ParamTree, FunTree, MemberTree, field, method, ItemTree, using, enumeration, class, function}
+use Rattle.verse_tree.specs.ItemTree.{FieldTree, ParamTree, FunTree, MemberTree, field, method, ItemTree, using, enumeration, class}
+use Rattle.verse_tree.specs.ItemTree.{function}
 use Rattle.verse_tree.specs.Shapes.{ItemsShaped}
 use Rattle.verse_tree.specs.declared.tables.FieldInfo.{FieldInfo}
 use Rattle.verse_tree.specs.declared.tables.FunInfo.{FunInfo}
@@ -135,7 +137,7 @@ module _ (is : List ItemTree) where
   made_named : (w : Written) → Narrow w → Named (ty_of (made (spelled types w)))
   made_named w h = subst Named (sym (of_made (spelled types w))) (spelled_named w h)
 
-  abbrev NarrowSite : Site → Type 0
+  abbrev pub NarrowSite : Site → Type 0
   NarrowSite v = WhatNarrow v.number v.what
 
   module _ (quiet : Quiet is) (shaped : ItemsShaped is) (numbered : AreNumbered is) (narrow : Each NarrowSite (program_sites is)) where

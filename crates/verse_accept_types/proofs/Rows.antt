@@ -1,8 +1,10 @@
 -- The type of each form, and what it refers to, by what is found at the nodes before it.
-use Rattle.std.proofs.Common.{◌≡◌, ℕ, zero, suc, ◌+◌, ◌-◌, ◌<◌, ◌≤◌, Bool, true, false, cond, List, Option, Some, None, refl, sym, ap, subst, arith}
+use Rattle.std.proofs.Common.{◌≡◌, ℕ, zero, suc, ◌+◌, ◌-◌, ◌<◌, ◌≤◌, Bool, true, false, cond, List, Option, Some, None, refl, sym, ap}
+use Rattle.std.proofs.Common.{subst, arith}
 use Rattle.std.specs.Str.{bytes_eq}
 use Rattle.std.specs.Prelude.{slice_get, codes}
-use Rattle.verse_tree.specs.Tree.{Bytes, Written, Writtens, no_writtens, more_writtens, Tree, tree, Shape, Trees, no_trees, more_trees, Pairs}
+use Rattle.verse_tree.specs.Tree.{Bytes, Written, Writtens, no_writtens, more_writtens, Tree, tree, Shape, Trees, no_trees, more_trees}
+use Rattle.verse_tree.specs.Tree.{Pairs}
 use Rattle.verse_tree.specs.Tree.{no_pairs, more_pairs}
 use Rattle.verse_tree.specs.Tree as s
 use Rattle.verse_tree.specs.declared.exprs.Operator.{Operator}
@@ -29,7 +31,8 @@ use Rattle.verse_check_typing.specs.Parts.{is_equality, compared_type, assigned_
 use Rattle.verse_check_typing.specs.Members.{fields_in, type_in, field_type, field_by, method_by, member_at, class_member, member_ref}
 use Rattle.verse_check_typing.specs.Members.{by_ref, named_length, named_await, named_event, type_member, is_value, enum_member, member_of}
 use Rattle.verse_check_typing.specs.Members.{Member, part, action, missing, part_type}
-use Rattle.verse_check_typing.specs.Callees.{Callee, function, print, round, modulo, await, signal, item, value, builtin_callee, item_callee}
+use Rattle.verse_check_typing.specs.Callees.{Callee, function, print, round, modulo, await, signal, item, value, builtin_callee}
+use Rattle.verse_check_typing.specs.Callees.{item_callee}
 use Rattle.verse_check_typing.specs.Callees.{plain_callee, function_or, task_action, event_action, action_of, shape_callee, callee_by}
 use Rattle.verse_check_typing.specs.Callees.{callee_of}
 use Rattle.verse_check_typing.specs.Calls.{ty_at, ty_by, tree_place, named_item, item_of, content_of, element_of, call_type, index_type}

@@ -17,7 +17,8 @@ use Rattle.verse_check_typing.specs.Refs.{referred, ref_at}
 use Rattle.verse_check_typing.specs.Facts.{World, Facts, named_ref, or_never, type_at}
 use Rattle.verse_check_typing.specs.Judgement.{Judgement}
 use Rattle.verse_check_typing.specs.TypeRules.{is_too_deep}
-use Rattle.verse_check_typing.specs.Steps.{Sight, facts, type_by, ref_by, own_rules, expression_rules, type_rules, cut, own, served, judge, step}
+use Rattle.verse_check_typing.specs.Steps.{Sight, facts, type_by, ref_by, own_rules, expression_rules, type_rules, cut, own, served, judge}
+use Rattle.verse_check_typing.specs.Steps.{step}
 use Rattle.verse_check_typing.specs.Steps.{serves_as, item_type, member_type}
 use Rattle.verse_accept_scopes.specs.Lists.{Each}
 use Rattle.verse_accept_scopes.proofs.Rows.{each_joined}

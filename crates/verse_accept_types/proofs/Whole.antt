@@ -1,6 +1,6 @@
 -- The types of a program that breaks no rule are told by its tables; so are those of accepted ones.
-use Rattle.std.proofs.Common.{◌≡◌, ℕ, zero, suc, ◌+◌, ◌*◌, ◌<◌, ◌≤◌, List, [], ◌∷◌, map, length, Option, Some, None, All, inl, refl, sym, ap, ◌∙◌}
-use Rattle.std.proofs.Common.{subst, arith}
+use Rattle.std.proofs.Common.{◌≡◌, ℕ, zero, suc, ◌+◌, ◌*◌, ◌<◌, ◌≤◌, List, [], ◌∷◌, map, length, Option, Some, None, All, inl, refl, sym}
+use Rattle.std.proofs.Common.{ap, ◌∙◌, subst, arith, false}
 use Rattle.std.specs.Prelude.{slice_get}
 use Rattle.std.specs.List.{range_with_len}
 use Rattle.std.proofs.lemmas.List.FromFn.{length-range_with_len}
@@ -8,7 +8,8 @@ use Rattle.std.proofs.lemmas.List.Elements.{All-nil, All-cons}
 use Rattle.std.proofs.lemmas.Option.{same_Some, none-some}
 use Rattle.verse_tree.specs.Tree.{Written, Shape}
 use Rattle.verse_tree.specs.Tree as s
-use Rattle.verse_tree.specs.ItemTree.{FieldTree, ParamTree, FunTree, MemberTree, field, method, ItemTree, using, enumeration, class, function}
+use Rattle.verse_tree.specs.ItemTree.{FieldTree, ParamTree, FunTree, MemberTree, field, method, ItemTree, using, enumeration, class}
+use Rattle.verse_tree.specs.ItemTree.{function}
 use Rattle.verse_tree.specs.ItemView.{item_of}
 use Rattle.verse_tree.specs.Shapes.{ItemsShaped}
 use Rattle.verse_tree.specs.Numbering.{items_nodes, items_numbered, program_nodes}
@@ -25,7 +26,7 @@ use Rattle.verse_rules_types.specs.Types.{Ty, ty_of}
 use Rattle.verse_rules_types.specs.Kinds.{levels}
 use Rattle.verse_rules_least.specs.Least.{each, first_true}
 use Rattle.verse_rules_walk.specs.Around.{outside}
-use Rattle.verse_rules_walk.specs.Nodes.{Node, alone, number_of} 
+use Rattle.verse_rules_walk.specs.Nodes.{Node, alone, number_of}
 use Rattle.verse_rules_walk.specs.Nodes as walked
 use Rattle.verse_rules_walk.specs.Order.{AreNumbered}
 use Rattle.verse_rules_walk.proofs.Order.{items_alone, numbers_in_row}
