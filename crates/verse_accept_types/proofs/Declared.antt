@@ -1,26 +1,22 @@
 -- The tables of functions and fields, where what is written is narrow; and where no rule is broken.
-use Rattle.std.proofs.Common.{◌≡◌, ℕ, zero, suc, ◌<◌, ◌≤◌, List, [], ◌∷◌, ◌++◌, map, length, Option, Some, None, All, refl, sym, ap, ◌∙◌}
-use Rattle.std.proofs.Common.{subst, arith}
+use Rattle.std.proofs.Common.{◌≡◌, ℕ, zero, suc, ◌<◌, ◌≤◌, List, [], ◌∷◌, ◌++◌, map, Option, Some, None, refl, sym, ap, ◌∙◌}
+use Rattle.std.proofs.Common.{subst}
 use Rattle.std.specs.Prelude.{slice_get}
-use Rattle.std.proofs.lemmas.List.Elements.{All-nil, All-cons}
 use Rattle.std.proofs.lemmas.Option.{same_Some, none-some}
 use Rattle.verse_tree.specs.Tree.{Bytes, Written, Writtens, no_writtens, more_writtens}
 use Rattle.verse_tree.specs.Tree as s
-use Rattle.verse_tree.specs.ItemTree.{FieldTree, ParamTree, FunTree, MemberTree, field, method, ItemTree, using, enumeration, class}
+use Rattle.verse_tree.specs.ItemTree.{FieldTree, FunTree, MemberTree, field, method, ItemTree, using, enumeration, class}
 use Rattle.verse_tree.specs.ItemTree.{function}
 use Rattle.verse_tree.specs.Shapes.{ItemsShaped}
-use Rattle.verse_tree.specs.declared.tables.FieldInfo.{FieldInfo}
 use Rattle.verse_tree.specs.declared.tables.FunInfo.{FunInfo}
 use Rattle.verse_tree.specs.declared.tables.ClassInfo.{ClassInfo}
 use Rattle.verse_tree.specs.declared.tables.Names.{Names}
 use Rattle.verse_tree.specs.declared.tables.Ref.{Ref}
 use Rattle.verse_tree.specs.declared.tables.Ref.TheVariants as ref
-use Rattle.verse_rules_types.specs.Types as t
 use Rattle.verse_rules_types.specs.Types.{Ty, Tys, ty_of}
-use Rattle.verse_rules_walk.specs.Around.{outside}
 use Rattle.verse_rules_walk.specs.Order.{AreNumbered}
-use Rattle.verse_names_declarations.specs.Names.{Table, look}
-use Rattle.verse_names_declarations.specs.Functions.{fun_function, param_type, spelled, all_spelled}
+use Rattle.verse_names_declarations.specs.Names.{Table}
+use Rattle.verse_names_declarations.specs.Functions.{spelled, all_spelled}
 use Rattle.verse_names_declarations.specs.Counting.{Counted}
 use Rattle.verse_names_declarations.specs.declared.counting.Counts.{Counts}
 use Rattle.verse_names_declarations.specs.Known.{Known, known}
@@ -29,10 +25,8 @@ use Rattle.verse_names_scopes.specs.Visible as visible
 use Rattle.verse_check_typing.specs.Refs.{fun_numbered, method_in, function_of}
 use Rattle.verse_check_typing.specs.Facts.{world_of}
 use Rattle.verse_check_typing.specs.Members.{fields_in, type_in}
-use Rattle.verse_check_typing.specs.Spelling.{spelled_by}
 use Rattle.verse_rules.specs.Made.{made}
-use Rattle.verse_rules.specs.Naming.{made_function, named}
-use Rattle.verse_rules.specs.Sound.{completed}
+use Rattle.verse_rules.specs.Naming.{named}
 use Rattle.verse_accept_scopes.specs.Lists.{Each}
 use Rattle.verse_accept_scopes.specs.Sites.{Site, item_site, member_site, program_sites}
 use Rattle.verse_accept_scopes.specs.Holding.{OnMembers, OnItem, OnItems}
@@ -48,7 +42,7 @@ use Rattle.verse_accept_nodes.proofs.Fine.{Narrow, AllNarrow, WhatNarrow}
 use Rattle.verse_accept_nodes.proofs.Fine as fine
 use Rattle.verse_accept_types.specs.Told.{how_many}
 use Rattle.verse_accept_types.proofs.Bounds.{IsNamed, AreNamed}
-use Rattle.verse_accept_types.proofs.Rows.{RefNamed, WorldNamed}
+use Rattle.verse_accept_types.proofs.Rows.{WorldNamed}
 use Rattle.verse_accept_types.proofs.Refs.{classes_count, enums_count, outline_count, type_known, refs_known}
 
 -- ---- at the own node of each function and method

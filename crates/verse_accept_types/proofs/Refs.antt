@@ -1,7 +1,6 @@
 -- What names stand for is numbered below how many classes and enums there are.
 use Rattle.std.proofs.Common.{◌≡◌, ℕ, zero, suc, ◌<◌, ◌≤◌, List, [], ◌∷◌, ◌++◌, map, length, Option, Some, None, refl, sym, ap, ◌∙◌, subst}
 use Rattle.std.proofs.Common.{arith}
-use Rattle.std.specs.Prelude.{slice_get}
 use Rattle.std.proofs.lemmas.Option.{slice_get_within}
 use Rattle.verse_tree.specs.Tree.{Bytes}
 use Rattle.verse_tree.specs.ItemTree.{ItemTree, using, enumeration, class, function}
@@ -14,7 +13,7 @@ use Rattle.verse_names_declarations.specs.Known.{known}
 use Rattle.verse_names_items.specs.Tables.{enum_tables}
 use Rattle.verse_names_scopes.specs.Visible.{World, inside, outside, visible}
 use Rattle.verse_names_scopes.specs.Subjects.{Subject, quiet, type_name, this, used, instance, defined, both_defined, refers, this_ref}
-use Rattle.verse_names_scopes.specs.Visits.{Visit, ref_of, program_visits}
+use Rattle.verse_names_scopes.specs.Visits.{Visit, ref_of}
 use Rattle.verse_rules_walk.specs.Order.{AreNumbered}
 use Rattle.verse_check_typing.specs.Refs.{ref_at}
 use Rattle.verse_rules.specs.Naming.{named}

@@ -1,5 +1,5 @@
 -- The type of each form, and what it refers to, by what is found at the nodes before it.
-use Rattle.std.proofs.Common.{◌≡◌, ℕ, zero, suc, ◌+◌, ◌-◌, ◌<◌, ◌≤◌, Bool, true, false, cond, List, Option, Some, None, refl, sym, ap}
+use Rattle.std.proofs.Common.{◌≡◌, ℕ, zero, suc, ◌-◌, ◌<◌, ◌≤◌, cond, List, Option, Some, None, refl, sym, ap}
 use Rattle.std.proofs.Common.{subst, arith}
 use Rattle.std.specs.Str.{bytes_eq}
 use Rattle.std.specs.Prelude.{slice_get, codes}
@@ -9,7 +9,6 @@ use Rattle.verse_tree.specs.Tree.{no_pairs, more_pairs}
 use Rattle.verse_tree.specs.Tree as s
 use Rattle.verse_tree.specs.declared.exprs.Operator.{Operator}
 use Rattle.verse_tree.specs.declared.exprs.Operator.TheVariants as o
-use Rattle.verse_tree.specs.declared.exprs.Comparison.{Comparison}
 use Rattle.verse_tree.specs.declared.exprs.Assign.{Assign}
 use Rattle.verse_tree.specs.declared.exprs.Assign.TheVariants as a
 use Rattle.verse_tree.specs.declared.tables.FunInfo.{FunInfo}
@@ -27,15 +26,15 @@ use Rattle.verse_check_typing.specs.Facts.{World, Facts, classes, named_ref, typ
 use Rattle.verse_check_typing.specs.Sets.{has_number}
 use Rattle.verse_check_typing.specs.Spelling.{spelled_by, all_spelled_by}
 use Rattle.verse_check_typing.specs.Parts.{count, types_of, joined_from, keys_from, values_from, last_from, or_void, sum_of, chain_type}
-use Rattle.verse_check_typing.specs.Parts.{is_equality, compared_type, assigned_type, queried_type, is_never, joined}
-use Rattle.verse_check_typing.specs.Members.{fields_in, type_in, field_type, field_by, method_by, member_at, class_member, member_ref}
-use Rattle.verse_check_typing.specs.Members.{by_ref, named_length, named_await, named_event, type_member, is_value, enum_member, member_of}
+use Rattle.verse_check_typing.specs.Parts.{is_equality, assigned_type, queried_type, is_never, joined}
+use Rattle.verse_check_typing.specs.Members.{fields_in, type_in, field_by, method_by, member_at, class_member, member_ref}
+use Rattle.verse_check_typing.specs.Members.{by_ref, type_member, is_value, member_of}
 use Rattle.verse_check_typing.specs.Members.{Member, part, action, missing, part_type}
-use Rattle.verse_check_typing.specs.Callees.{Callee, function, print, round, modulo, await, signal, item, value, builtin_callee}
+use Rattle.verse_check_typing.specs.Callees.{Callee, function, await, signal, value, builtin_callee}
 use Rattle.verse_check_typing.specs.Callees.{item_callee}
-use Rattle.verse_check_typing.specs.Callees.{plain_callee, function_or, task_action, event_action, action_of, shape_callee, callee_by}
+use Rattle.verse_check_typing.specs.Callees.{plain_callee, function_or, action_of, shape_callee, callee_by}
 use Rattle.verse_check_typing.specs.Callees.{callee_of}
-use Rattle.verse_check_typing.specs.Calls.{ty_at, ty_by, tree_place, named_item, item_of, content_of, element_of, call_type, index_type}
+use Rattle.verse_check_typing.specs.Calls.{ty_at, ty_by, tree_place, named_item, item_of, content_of, call_type, index_type}
 use Rattle.verse_check_typing.specs.Loops.{index_of}
 use Rattle.verse_check_typing.specs.Rows.{name_type, class_type, value_type, row}
 use Rattle.verse_check_typing.specs.Steps.{shape_ref}

@@ -1,22 +1,18 @@
 -- What is found at each node is told by the tables, where what is written at it is narrow.
-use Rattle.std.proofs.Common.{◌≡◌, ℕ, zero, suc, ◌≤◌, Bool, true, false, List, [], ◌∷◌, ◌++◌, Option, Some, None, refl, arith}
+use Rattle.std.proofs.Common.{◌≡◌, ℕ, zero, suc, ◌≤◌, Bool, true, false, List, [], ◌∷◌, Option, Some, None, refl, arith}
 use Rattle.std.proofs.lemmas.Bool.{ltb-false}
-use Rattle.std.specs.Prelude.{slice_get}
-use Rattle.verse_tree.specs.Tree.{Shape}
 use Rattle.verse_tree.specs.ItemTree.{MemberTree, field, method, ItemTree, using, enumeration, class, function}
 use Rattle.verse_tree.specs.PostOrder.{What, program, item, member, parameter, type_name, expression}
 use Rattle.verse_tree.specs.declared.tables.Ref.{Ref}
-use Rattle.verse_rules_types.specs.Types as t
 use Rattle.verse_rules_types.specs.Types.{Ty}
 use Rattle.verse_rules_types.specs.Kinds.{levels}
 use Rattle.verse_rules_least.specs.Least.{each, first_true}
 use Rattle.verse_rules_walk.specs.Around.{Around}
 use Rattle.verse_rules_walk.specs.Nodes.{Node}
 use Rattle.verse_names_declarations.specs.Functions.{named_type}
-use Rattle.verse_check_typing.specs.Refs.{referred, ref_at}
-use Rattle.verse_check_typing.specs.Facts.{World, Facts, named_ref, or_never, type_at}
+use Rattle.verse_check_typing.specs.Refs.{ref_at}
+use Rattle.verse_check_typing.specs.Facts.{World, Facts, named_ref, type_at}
 use Rattle.verse_check_typing.specs.Judgement.{Judgement}
-use Rattle.verse_check_typing.specs.TypeRules.{is_too_deep}
 use Rattle.verse_check_typing.specs.Steps.{Sight, facts, type_by, ref_by, own_rules, expression_rules, type_rules, cut, own, served, judge}
 use Rattle.verse_check_typing.specs.Steps.{step}
 use Rattle.verse_check_typing.specs.Steps.{serves_as, item_type, member_type}

@@ -1,22 +1,20 @@
 -- The types of a program that breaks no rule are told by its tables; so are those of accepted ones.
-use Rattle.std.proofs.Common.{◌≡◌, ℕ, zero, suc, ◌+◌, ◌*◌, ◌<◌, ◌≤◌, List, [], ◌∷◌, map, length, Option, Some, None, All, inl, refl, sym}
+use Rattle.std.proofs.Common.{◌≡◌, ℕ, zero, suc, ◌<◌, ◌≤◌, List, [], ◌∷◌, map, length, Option, Some, None, All, inl, refl, sym}
 use Rattle.std.proofs.Common.{ap, ◌∙◌, subst, arith, false}
 use Rattle.std.specs.Prelude.{slice_get}
-use Rattle.std.specs.List.{range_with_len}
 use Rattle.std.proofs.lemmas.List.FromFn.{length-range_with_len}
 use Rattle.std.proofs.lemmas.List.Elements.{All-nil, All-cons}
 use Rattle.std.proofs.lemmas.Option.{same_Some, none-some}
 use Rattle.verse_tree.specs.Tree.{Written, Shape}
 use Rattle.verse_tree.specs.Tree as s
-use Rattle.verse_tree.specs.ItemTree.{FieldTree, ParamTree, FunTree, MemberTree, field, method, ItemTree, using, enumeration, class}
+use Rattle.verse_tree.specs.ItemTree.{FieldTree, ParamTree, MemberTree, field, method, ItemTree, using, enumeration, class}
 use Rattle.verse_tree.specs.ItemTree.{function}
 use Rattle.verse_tree.specs.ItemView.{item_of}
 use Rattle.verse_tree.specs.Shapes.{ItemsShaped}
-use Rattle.verse_tree.specs.Numbering.{items_nodes, items_numbered, program_nodes}
+use Rattle.verse_tree.specs.Numbering.{items_nodes, program_nodes}
 use Rattle.verse_tree.specs.Numbers.{numbers}
 use Rattle.verse_tree.specs.PostOrder.{What, program, item, member, parameter, type_name, expression, items_order}
 use Rattle.verse_tree.specs.declared.programs.Program.{Program as Made}
-use Rattle.verse_tree.specs.declared.tables.Ty.{Ty as MadeTy}
 use Rattle.verse_tree.specs.declared.tables.FunInfo.{FunInfo}
 use Rattle.verse_tree.specs.declared.tables.ClassInfo.{ClassInfo}
 use Rattle.verse_tree.proofs.Order.{items_in_order, numbers_length}
@@ -24,14 +22,13 @@ use Rattle.verse_join.proofs.Counted.{counted}
 use Rattle.verse_rules_types.specs.Types as t
 use Rattle.verse_rules_types.specs.Types.{Ty, ty_of}
 use Rattle.verse_rules_types.specs.Kinds.{levels}
-use Rattle.verse_rules_least.specs.Least.{each, first_true}
 use Rattle.verse_rules_walk.specs.Around.{outside}
 use Rattle.verse_rules_walk.specs.Nodes.{Node, alone, number_of}
 use Rattle.verse_rules_walk.specs.Nodes as walked
 use Rattle.verse_rules_walk.specs.Order.{AreNumbered}
 use Rattle.verse_rules_walk.proofs.Order.{items_alone, numbers_in_row}
 use Rattle.verse_names_declarations.specs.Names.{Table}
-use Rattle.verse_names_declarations.specs.Functions.{fun_function, param_type, spelled}
+use Rattle.verse_names_declarations.specs.Functions.{param_type, spelled}
 use Rattle.verse_names_declarations.specs.Known.{known}
 use Rattle.verse_names_scopes.specs.Visible.{World}
 use Rattle.verse_names_scopes.specs.Visible as visible
@@ -44,17 +41,17 @@ use Rattle.verse_check_typing.specs.Steps.{begun, type_by}
 use Rattle.verse_check.specs.Checking.{all_seen}
 use Rattle.verse_rules.specs.Breaking.{NamesBreak}
 use Rattle.verse_rules.specs.Made.{made}
-use Rattle.verse_rules.specs.Naming.{made_function, named}
+use Rattle.verse_rules.specs.Naming.{named}
 use Rattle.verse_rules.specs.Sound.{completed, types_of, BodiesBreak, IsSound, size_of, most_size}
 use Rattle.verse_accept.specs.Fronts.{Accepts, all_items}
 use Rattle.lower_bounds.proofs.Lists.{Each as All_of}
 use Rattle.verse_accept_nodes.specs.Laws.{AcceptedShaped}
-use Rattle.verse_accept_nodes.proofs.Fine.{WhatNarrow, NodeNarrow}
+use Rattle.verse_accept_nodes.proofs.Fine.{NodeNarrow}
 use Rattle.verse_accept_nodes.proofs.Accepted.{each_narrow}
 use Rattle.verse_accept_scopes.specs.Lists.{Each}
-use Rattle.verse_accept_scopes.specs.Sites.{Site, node_of, program_sites, item_site, member_site, param_subject, params_behind}
+use Rattle.verse_accept_scopes.specs.Sites.{Site, node_of, program_sites, param_subject, params_behind}
 use Rattle.verse_accept_scopes.specs.Holding.{OnParams, OnFun}
-use Rattle.verse_accept_scopes.proofs.Whole.{walked_are_sites, holds_on_items}
+use Rattle.verse_accept_scopes.proofs.Whole.{walked_are_sites}
 use Rattle.verse_accept_scopes.proofs.Rows.{Row, row_of, all_below}
 use Rattle.verse_accept_rows.specs.Found.{final, Found}
 use Rattle.verse_accept_rows.proofs.Whole.{all_found, items_found}
@@ -63,7 +60,7 @@ use Rattle.verse_accept_classes.specs.Laws.{Quiet, info_of}
 use Rattle.verse_accept_classes.specs.Referring as items
 use Rattle.verse_accept_classes.proofs.Functions.{owner_of}
 use Rattle.verse_accept_classes.proofs.Bodies.{bodies_found, fields_found, at_fields}
-use Rattle.verse_accept_classes.proofs.Tables.{of_made, names_stand, fields_agree_all, all_written_agrees}
+use Rattle.verse_accept_classes.proofs.Tables.{of_made, fields_agree_all, all_written_agrees}
 use Rattle.verse_accept_types.specs.Told.{IsNumber}
 use Rattle.verse_accept_types.specs.Laws.{Told, MadeTold, FieldTold, ShapeTold, ItemTold, MemberTold, WhatTold, TypesTold, AcceptedTypes}
 use Rattle.verse_accept_types.proofs.Bounds.{Good, good_told, index_good, inner_good}
