@@ -10,7 +10,7 @@ use Rattle.verse_tree.specs.declared.tables.Ref.{Ref}
 use Rattle.verse_tree.specs.declared.tables.Ref.TheVariants as ref
 use Rattle.verse_names_declarations.specs.Names.{Table, look, put, put_absent, keep, keep_named, names, meanings}
 use Rattle.verse_names_declarations.specs.Words.{builtins}
-use Rattle.verse_names_declarations.specs.Counting.{Counted, counted, counts_after, funs_after, named_as, no_counts}
+use Rattle.verse_names_declarations.specs.Counting.{Counted, counted, counts_after, funs_after, named_as, named_type_as, no_counts}
 use Rattle.verse_names_declarations.specs.declared.counting.Counts.{Counts}
 use Rattle.verse_names_declarations.specs.Known.{Index, indexed, index_all, no_index, notes, Known, known}
 use Rattle.verse_names_declarations.specs.Lines.{line_of, all_members}
@@ -119,8 +119,29 @@ module _ (all : List ItemTree) (this : Option ℕ) where
   items_there (i ∷ is) n x l h =
       items_there is (counts_after i n) (indexed record { item = i; before = n } x) (next all is i n l) (named_there i is n x.items l h)
 
+  -- those that are classes or enums
+  typed_there : (i : ItemTree) (is : List ItemTree) (n : Counts) (t : Table) → Last all (i ∷ is) n → There t →
+      There (keep_named (named_type_as i n) t)
+  typed_there (using u) is n t l h = h
+  typed_there (enumeration e) is n t l h =
+      keep_all (IsThere all this) e.name (ref.Enum n.enums) t (record { tree = e; there = l.enums.0 }) h
+  typed_there (class c) is n t l h =
+      keep_all (IsThere all this) c.name (ref.Class n.classes) t
+      (record { note = record { item = c; first = n.funs }; there = l.classes.0 }) h
+  typed_there (function f) is n t l h = h
+
+  types_there : (is : List ItemTree) (n : Counts) (x : Index) → Last all is n → There x.types → There (index_all (counted n is) x).types
+  types_there [] n x l h = h
+  types_there (i ∷ is) n x l h =
+      types_there is (counts_after i n) (indexed record { item = i; before = n } x) (next all is i n l) (typed_there i is n x.types l h)
+
   builtins_there : There builtins
   builtins_there = (omega arith, (omega arith, (omega arith, (omega arith, tt))))
+
+pub type_there : (is : List ItemTree) (x : Bytes) (r : Ref) → look x (known is).index.types ≡ Some r → IsThere is None r
+type_there is x r e =
+    subst (Holds (IsThere is None)) e
+    (look_all (IsThere is None) x (known is).index.types (types_there is None is no_counts no_index (whole is) tt))
 
 -- ---- members by their bare names
 

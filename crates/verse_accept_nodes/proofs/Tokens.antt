@@ -40,6 +40,9 @@ KindFits kind = Unit {0}
 pub record TokenFits (files : ℕ) (bytes : List ℕ) (t : Token) : Type 0 where
   pub place : IsPlace files t.place
   pub kind : KindFits t.kind
+  -- it has bytes, which are some of the file's
+  pub some : t.start < t.end
+  pub within : t.end ≤ length bytes
   -- a name is not that of `Self`, which is a word
   pub named : t.kind ≡ k.Name → IsNew (take (t.end - t.start) (drop t.start bytes))
 
@@ -162,6 +165,36 @@ spanned file bs t d =
     ∙ drop_at ahead (d.front ++ d.behind) t.start begins in
     ap (λ n. take n (drop t.start bs)) long ∙ ap (λ l. take (length d.front) l) rest ∙ take-append_seam d.front d.behind
 
+number_some : {cs : List ℕ} {kind : TokenKind} {rule : Option Rule} → Number cs kind rule → 0 < length cs
+number_some (s.digits d ds h g) = omega arith
+number_some (s.hex_digits d ds h g) = omega arith
+number_some (s.fraction c d cs ds h g i j) = omega arith
+
+literal_some : {cs : List ℕ} {c : ℕ} → Literal cs c → 0 < length cs
+literal_some (s.literal_plain h e) = omega arith
+literal_some (s.literal_escaped h) = omega arith
+
+spelled_some : {within : Bool} {cs : List ℕ} {kind : TokenKind} → Spells within cs (is_token kind) → 0 < length cs
+spelled_some (s.name h g) = omega arith
+spelled_some (s.number d) = number_some d
+spelled_some (s.literal d) = literal_some d
+spelled_some (s.text d) = omega arith
+spelled_some (s.text_open d) = omega arith
+spelled_some (s.text_mid d) = omega arith
+spelled_some (s.text_close d) = omega arith
+spelled_some (s.double h) = omega arith
+spelled_some (s.single h) = omega arith
+spelled_some (s.single_in_hole h e f) = omega arith
+
+-- the span of a token lies in the file
+span_within : (file : ℕ) (bs : List ℕ) (t : Token) → IsSpelled file bs t → t.end ≤ length bs
+span_within file bs t d =
+    let whole : length bs ≡ length d.mark + (length d.before + (length d.front + length d.behind)) =
+    ap length d.whole ∙ length-append d.mark (d.before ++ (d.front ++ d.behind))
+    ∙ ap (λ n. length d.mark + n) (length-append d.before (d.front ++ d.behind)
+    ∙ ap (λ n. length d.before + n) (length-append d.front d.behind)) in
+    omega (arith, whole, d.stop)
+
 -- ---- tokens
 
 each_fits : (files file : ℕ) (bs : List ℕ) (ts : List Token) → file < files → EachSpelled file bs ts → Each (TokenFits files bs) ts
@@ -170,6 +203,8 @@ each_fits files file bs (t ∷ ts) h d = (
   record {
     place = subst (IsPlace files) (sym d.0.place) (stands_behind files file d.0.before h);
     kind = spelled_fits d.0.spelled;
+    some = omega (arith, d.0.start, d.0.stop, spelled_some d.0.spelled);
+    within = span_within file bs t d.0;
     named = λ e. subst IsNew (sym (spanned file bs t d.0)) (spelled_new d.0.spelled e);
   },
   each_fits files file bs ts h d.1,

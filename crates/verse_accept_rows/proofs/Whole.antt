@@ -83,7 +83,7 @@ module _ (is : List ItemTree) (shaped : ItemsShaped is) (numbered : AreNumbered 
 
   lows : Each (NamedLow k) sites
   lows =
-      let wide = worlds_are WideWorld is (outside_wide is) (inside_wide is) shaped in
+      let wide = worlds_are WideWorld is (outside_wide is) (λ c l. inside_wide is c) shaped in
       let both = each_both (λ (v : Site). WideWorld v.world × Stands v) (λ v w s. (w, s)) sites wide stand in
       each_both (NamedLow k) (λ v p e. low_at v p.0 p.1 e) sites both names
 

@@ -1,5 +1,5 @@
 -- The nodes that are walked and those whose names are looked up are the sites, and parts are numbered below the whole.
-use Rattle.std.proofs.Common.{◌≡◌, ℕ, suc, ◌<◌, ◌≤◌, Bool, true, false, List, [], ◌∷◌, ◌++◌, map, Option, refl, ap, sym, ◌∙◌}
+use Rattle.std.proofs.Common.{◌≡◌, ℕ, suc, ◌+◌, ◌<◌, ◌≤◌, Bool, true, false, List, [], ◌∷◌, ◌++◌, map, length, Option, refl, ap, sym, ◌∙◌}
 use Rattle.std.proofs.Common.{append_assoc}
 use Rattle.std.proofs.Common.{subst, arith, append-nil}
 use Rattle.std.specs.Prelude.{Some, None}
@@ -25,7 +25,7 @@ use Rattle.verse_tree.specs.declared.tables.Ref.TheVariants as ref
 use Rattle.verse_names_declarations.specs.Names.{Table}
 use Rattle.verse_names_declarations.specs.Counting.{counted, counts_after, no_counts}
 use Rattle.verse_names_declarations.specs.declared.counting.Counts.{Counts}
-use Rattle.verse_names_declarations.specs.Known.{Known, known}
+use Rattle.verse_names_declarations.specs.Known.{notes, Known, known}
 use Rattle.verse_names_scopes.specs.Visible.{World, inside, visible, with_name, with_local}
 use Rattle.verse_names_scopes.specs.Visible as worlds
 use Rattle.verse_names_scopes.specs.Subjects.{Subject, quiet, subject, locals_behind}
@@ -758,7 +758,25 @@ module _ (In : World → Type 0) (w : World) (home : In w) where
   field_agrees : (d : FieldTree) → FieldShaped d → Agree In [] [] (field_part d)
   field_agrees d h = in_turn (written_agrees outside false d.written) (default_agrees d.written d.default h.1)
 
-module _ (In : World → Type 0) (k : Known) (out : In (worlds.outside k)) (within : (c : ℕ) → In (inside k c)) where
+-- Is says which classes there are
+abbrev pub IsAt : (Is : ℕ → Type 0) → ItemTree → Counts → Type 0
+IsAt Is (class d) c = Is c.classes
+IsAt Is i c = Unit {0}
+
+abbrev pub AreAt : (Is : ℕ → Type 0) → Counts → List ItemTree → Type 0
+AreAt Is c [] = Unit {0}
+AreAt Is c (i ∷ is) = IsAt Is i c × AreAt Is (counts_after i c) is
+
+-- the classes of a program have numbers below how many they are
+classes_at : (all : ℕ) (c : Counts) (is : List ItemTree) → c.classes + length (notes (counted c is)) ≤ all → AreAt (λ n. n < all) c is
+classes_at all c [] h = tt
+classes_at all c (using i ∷ is) h = (tt, classes_at all c is h)
+classes_at all c (enumeration e ∷ is) h = (tt, classes_at all (counts_after (enumeration e) c) is h)
+classes_at all c (class d ∷ is) h = (omega (arith, h), classes_at all (counts_after (class d) c) is (omega (arith, h)))
+classes_at all c (function f ∷ is) h = (tt, classes_at all (counts_after (function f) c) is h)
+
+module _ (In : World → Type 0) (Is : ℕ → Type 0) (k : Known) (out : In (worlds.outside k))
+    (within : (c : ℕ) → Is c → In (inside k c)) where
   abbrev member_whole : World → World → MemberTree → Part
   member_whole w v m = record {
     see = through_member visit leave k w v m;
@@ -793,13 +811,13 @@ module _ (In : World → Type 0) (k : Known) (out : In (worlds.outside k)) (with
     nodes = walked.item_parts i ++ item_node i ∷ [];
   }
 
-  item_agrees : (i : ItemTree) (c : Counts) → ItemShaped i → Agree In [] [] (item_whole i c)
-  item_agrees (using i) c h = node_agrees In (worlds.outside k) out i.number i.place outside (item (using i)) quiet refl tt
-  item_agrees (enumeration e) c h = node_agrees In (worlds.outside k) out e.number e.place outside (item (enumeration e)) quiet refl tt
-  item_agrees (class d) c h =
-      in_turn (members_agree (worlds.outside k) (inside k c.classes) out (within c.classes) d.members h)
+  item_agrees : (i : ItemTree) (c : Counts) → IsAt Is i c → ItemShaped i → Agree In [] [] (item_whole i c)
+  item_agrees (using i) c n h = node_agrees In (worlds.outside k) out i.number i.place outside (item (using i)) quiet refl tt
+  item_agrees (enumeration e) c n h = node_agrees In (worlds.outside k) out e.number e.place outside (item (enumeration e)) quiet refl tt
+  item_agrees (class d) c n h =
+      in_turn (members_agree (worlds.outside k) (inside k c.classes) out (within c.classes n) d.members h)
       (node_agrees In (worlds.outside k) out d.number d.place outside (item (class d)) quiet refl tt)
-  item_agrees (function f) c h =
+  item_agrees (function f) c n h =
       in_turn (fun_agrees In (worlds.outside k) out f h)
       (node_agrees In (worlds.outside k) out f.number f.place outside (item (function f)) quiet refl tt)
 
@@ -811,10 +829,17 @@ module _ (In : World → Type 0) (k : Known) (out : In (worlds.outside k)) (with
     nodes = items_nodes is;
   }
 
-  items_agree : (c : Counts) (is : List ItemTree) → ItemsShaped is → Agree In [] [] (items_part c is)
-  items_agree c [] h = nothing_agrees
-  items_agree c (i ∷ is) h = in_turn (item_agrees i c h.0) (items_agree (counts_after i c) is h.1)
+  items_agree : (c : Counts) (is : List ItemTree) → AreAt Is c is → ItemsShaped is → Agree In [] [] (items_part c is)
+  items_agree c [] n h = nothing_agrees
+  items_agree c (i ∷ is) n h = in_turn (item_agrees i c n.0 h.0) (items_agree (counts_after i c) is n.1 h.1)
+
+-- a class of this number
+abbrev pub InClasses : List ItemTree → ℕ → Type 0
+InClasses is c = c < length (known is).notes
 
 pub program_agrees : (In : World → Type 0) (is : List ItemTree) (out : In (worlds.outside (known is)))
-    (within : (c : ℕ) → In (inside (known is) c)) → ItemsShaped is → Agree In [] [] (items_part In (known is) out within no_counts is)
-program_agrees In is out within h = items_agree In (known is) out within no_counts is h
+    (within : (c : ℕ) → InClasses is c → In (inside (known is) c)) → ItemsShaped is →
+    Agree In [] [] (items_part In (InClasses is) (known is) out within no_counts is)
+program_agrees In is out within h =
+    items_agree In (InClasses is) (known is) out within no_counts is
+    (classes_at (length (known is).notes) no_counts is (omega arith)) h
