@@ -72,8 +72,13 @@ module _ {end : Spot} where
     body_many (b.Body.body_part {ws = ws} {vs = vs} d e) = omega (arith, part_many d, rest_many e, length-append ws vs)
     body_many (b.Body.body_block {c = c} {cs = cs} {ds = ds} {ws = ws} e g h d) =
         let last : Written = close_at (spot_at end ds) in
-        omega (arith, block_many d, opener_many (role_of c.token.kind) c.token,
-        length-append (opener (role_of c.token.kind) c.token) (open_at (spot_at end cs) ∷ (ws ++ last ∷ [])), length-append ws (last ∷ []))
+        omega (
+          arith,
+          block_many d,
+          opener_many (role_of c.token.kind) c.token,
+          length-append (opener (role_of c.token.kind) c.token) (open_at (spot_at end cs) ∷ (ws ++ last ∷ [])),
+          length-append ws (last ∷ []),
+        )
 
     rest_many : {i : Bool} {h : List ℕ} {cs ds : List Cell} {ws : List Written} → Rest end i h cs ws ds →
         length ws + 4 * length ds ≤ 4 * length cs
@@ -116,8 +121,14 @@ if_none_many false ks = omega arith
 behind_many : {j : Tok} {ws : List Written} {ks : List Tok} → SpacedBehind j ws ks → length ks ≤ length ws
 behind_many (w.SpacedBehind.last_gap e) = omega arith
 behind_many (w.SpacedBehind.next_tok {j = j} {k = k} gap {ws = ws} {ks = ks} e d) =
-    omega (arith, behind_many d, gap_many gap, if_none_many (is_open j.kind || is_close k.kind) (gap_sep gap),
-    length-append (sep_between j gap k) (k ∷ ks), length-append gap (tok k ∷ ws))
+    omega (
+      arith,
+      behind_many d,
+      gap_many gap,
+      if_none_many (is_open j.kind || is_close k.kind) (gap_sep gap),
+      length-append (sep_between j gap k) (k ∷ ks),
+      length-append gap (tok k ∷ ws),
+    )
 
 spaced_many : {ws : List Written} {ks : List Tok} → Spaced ws ks → length ks ≤ length ws
 spaced_many (w.Spaced.only_gap e) = omega arith
