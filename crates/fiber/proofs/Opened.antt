@@ -1,5 +1,5 @@
 -- The locals of a frame that begins.
-use Rattle.std.proofs.Common.{◌≡◌, ◌≢◌, ℕ, zero, suc, ◌+◌, List, [], ◌∷◌, ◌++◌, length, reverse, refl, sym, ap, ◌∙◌, arith}
+use Rattle.std.proofs.Common.{◌≡◌, ◌≢◌, ℕ, zero, suc, ◌+◌, List, [], ◌∷◌, ◌++◌, length, reverse, refl, sym, ap, ◌∙◌, arith, append-nil}
 use Rattle.std.proofs.lemmas.List.{map-append}
 use Rattle.verse_value.specs.Val.{unit}
 use Rattle.verse_value.specs.declared.values.Value.{Value}
@@ -7,7 +7,7 @@ use Rattle.verse_value.specs.declared.values.Value.TheVariants as value
 use Rattle.verse_value.specs.View.{val_of, vals_of}
 use Rattle.fiber_stacks.specs.Levels.{Level, empty_level, full_level, below}
 use Rattle.fiber_stacks.specs.Heads.{Head, height, new_head, with_locals}
-use Rattle.fiber_stacks.proofs.Lists.{nothing_more, grouped}
+use Rattle.fiber_stacks.proofs.Lists.{grouped}
 use Rattle.fiber.specs.Frames.{Frame}
 use Rattle.fiber.specs.Calls.{units, bare, added, with_more}
 use Rattle.fiber.specs.Opening.{unit_values}
@@ -18,7 +18,7 @@ units_end zero = refl
 units_end (suc n) = ap (λ k. value.Unit ∷ k) (units_end n)
 
 pub filled_none : (hs gs : List (Head Value)) (xs : List Value) → gs ≡ with_locals xs hs → gs ≡ with_locals (xs ++ unit_values 0) hs
-filled_none hs gs xs e = rw (nothing_more xs) e
+filled_none hs gs xs e = rw (append-nil xs) e
 
 twice_filled : (hs : List (Head Value)) (xs ys : List Value) → with_locals ys (with_locals xs hs) ≡ with_locals (xs ++ ys) hs
 twice_filled [] xs ys = refl
@@ -58,7 +58,7 @@ opened_high hs gs ls zs p n xs high e f = rw (e, f) (omega (arith, high), refl)
 pub added_in : (hs gs : List (Head Value)) (ls zs : List (Level Value)) (fs : List Frame) (p : ℕ) (xs os : List Value) (ds : List ℕ) →
     frames hs ls ≡ fs → gs ≡ with_locals (xs ++ unit_values 0) (new_head p ∷ hs) → zs ≡ full_level os ds ∷ ls →
     frames gs zs ≡ added p (vals_of xs) (vals_of (reverse os)) (reverse ds) fs
-added_in hs gs ls zs fs p xs os ds are e f = rw (← are, e, f, nothing_more xs, nothing_more (reverse ds)) refl
+added_in hs gs ls zs fs p xs os ds are e f = rw (← are, e, f, append-nil xs, append-nil (reverse ds)) refl
 
 pub added_high : (hs gs : List (Head Value)) (ls zs : List (Level Value)) (p : ℕ) (xs os : List Value) (ds : List ℕ) →
     length ls ≡ height hs → gs ≡ with_locals (xs ++ unit_values 0) (new_head p ∷ hs) → zs ≡ full_level os ds ∷ ls →

@@ -1,13 +1,14 @@
 -- Changes of the top list in the list that holds all.
 use Rattle.std.proofs.Common.{◌≡◌, ◌≢◌, ℕ, zero, suc, ◌+◌, ◌-◌, ◌≤◌, ◌<◌, IsTrue, Bool, true, false, Option, Some, None, unwrap_or, IfSome}
-use Rattle.std.proofs.Common.{List, [], ◌∷◌, ◌++◌, length, take, drop, reverse, slice_get, set, refl, sym, ap, ◌∙◌, arith}
+use Rattle.std.proofs.Common.{List, [], ◌∷◌, ◌++◌, length, take, drop, reverse, slice_get, set, refl, sym, ap, ◌∙◌, arith, append-nil}
 use Rattle.std.proofs.lemmas.Bool.Decides.{nat_tests}
 use Rattle.std.proofs.lemmas.List.{reverse-append, length-append, length-drop, length-take-le, take-append-le, length-reverse}
 use Rattle.std.proofs.lemmas.List.{reverse-reverse, drop-append-le, take-append-drop, drop-take, take-take, take-set-le, drop-set-add}
 use Rattle.std.proofs.lemmas.Option.{slice_get_within, slice_get-get_or}
 use Rattle.std.proofs.lemmas.Bool.{true≢false}
 use Rattle.std.proofs.Math.Seq.{drop-append_seam, take-append_seam}
-use Rattle.fiber_stacks.proofs.Lists.{nothing_more, grouped}
+use Rattle.verse_base.proofs.Facts.{get_front, get_last}
+use Rattle.fiber_stacks.proofs.Lists.{grouped}
 use Rattle.fiber_stacks.specs.Layers.{layers, are_layered, grown, joined, top, total, flat, with_at}
 
 -- the place where the top list begins
@@ -118,15 +119,6 @@ module _ {T : Type 0} where
       let turned : reverse es ≡ b ∷ reverse zs = ap reverse e ∙ reverse-append zs (b ∷ []) in
       joined_of b (reverse zs) xs ls (rw turned at layered) (rw turned at are) two
 
-get_front : {A : Type 0} (xs ys : List A) (i : ℕ) → i < length xs → slice_get (xs ++ ys) i ≡ slice_get xs i
-get_front [] ys i lt = absurd (omega (arith, lt))
-get_front (x ∷ xs) ys zero lt = refl
-get_front (x ∷ xs) ys (suc i) lt = get_front xs ys i (omega (arith, lt))
-
-get_seam : {A : Type 0} (xs : List A) (y : A) → slice_get (xs ++ y ∷ []) (length xs) ≡ Some y
-get_seam [] y = refl
-get_seam (x ∷ xs) y = get_seam xs y
-
 abbrev is_none : {A : Type 0} → Option A → Bool
 is_none None = true
 is_none (Some x) = false
@@ -146,7 +138,7 @@ module _ {T : Type 0} where
       let high : r ≤ length xs = begins_within r rs (length xs) layered in
       let place : suc (length rs) - 1 ≡ length (reverse rs) = omega (arith, length-reverse rs) in
       let there : slice_get (reverse rs ++ r ∷ []) (length (reverse rs)) ≡ Some b = rw (place, reverse-append (r ∷ []) rs) at e in
-      let same : r ≡ b = ap (λ o. unwrap_or o 0) (sym (get_seam (reverse rs) r) ∙ there) in
+      let same : r ≡ b = ap (λ o. unwrap_or o 0) (sym (get_last (reverse rs) r) ∙ there) in
       let size : length (drop r xs) ≡ length xs - r = length-drop r xs in
       rw (← same) (high, omega (arith, size))
   count_of (r ∷ rs) xs (suc (suc n)) b layered le e =
@@ -181,7 +173,7 @@ module _ {T : Type 0} where
       absurd (none_some _ (sym e ∙ there))
 
   flat_append : (xs ys : List (List T)) → flat (xs ++ ys) ≡ flat ys ++ flat xs
-  flat_append [] ys = sym (nothing_more (flat ys))
+  flat_append [] ys = sym (append-nil (flat ys))
   flat_append (x ∷ xs) ys = ap (λ k. k ++ x) (flat_append xs ys) ∙ grouped (flat ys) (flat xs) x
 
   flat_length : (ls : List (List T)) → length (flat ls) ≡ total ls

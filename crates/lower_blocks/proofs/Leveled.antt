@@ -64,13 +64,13 @@ module _ (p : Program) (xs : List Expr) (i : ℕ) (a : Around) (all : (Scope →
   levels_done sc ts b h is rest =
       sym (ap (λ k. turns_closed ts (made (levels_code p k sc a rest) b)) (left_none xs i h)) ∙ is rest
 
-binder_extends : (x : Binder) (old sc there : Scope) → there ≡ scope_claused (defines x) sc → Grown old sc →
+pub binder_extends : (x : Binder) (old sc there : Scope) → there ≡ scope_claused (defines x) sc → Grown old sc →
     Grown old there
 binder_extends no_name old sc there h e = (e.0, h ∙ e.1)
 binder_extends (a_constant x) old sc there h e = (constant_at x ∷ e.0, h ∙ ap (λ k. constant_at x ∷ k) e.1)
 binder_extends (a_variable x pl) old sc there h e = (variable_at x ∷ e.0, h ∙ ap (λ k. variable_at x ∷ k) e.1)
 
-generator_extends : (g : Generator) (old sc there : Scope) → there ≡ scope_claused (generates g) sc → Grown old sc →
+pub generator_extends : (g : Generator) (old sc there : Scope) → there ≡ scope_claused (generates g) sc → Grown old sc →
     Grown old there
 generator_extends (of_elements x) old sc there h e =
     (hidden ∷ constant_at x ∷ hidden ∷ hidden ∷ e.0, h ∙ ap (λ k. hidden ∷ constant_at x ∷ hidden ∷ hidden ∷ k) e.1)
@@ -87,7 +87,7 @@ extends_more (defines x) old sc there h e = binder_extends x old sc there h e
 extends_more (defers d) old sc there h e = (e.0, h ∙ e.1)
 extends_more (generates g) old sc there h e = generator_extends g old sc there h e
 
-hidden_cut : (added sc : Scope) → cut_to (length sc) (added ++ hidden ∷ sc) ≡ sc
+pub hidden_cut : (added sc : Scope) → cut_to (length sc) (added ++ hidden ∷ sc) ≡ sc
 hidden_cut added sc =
     ap (cut_to (length sc)) (sym (append_assoc added (hidden ∷ []) sc)) ∙ cut_back (added ++ hidden ∷ []) sc
 

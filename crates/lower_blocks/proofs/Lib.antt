@@ -1,12 +1,12 @@
 mod Inner
 mod RuleSets
 mod Stated
-mod Behind
-mod Listed
+pub mod Behind
+pub mod Listed
 mod Ifs
 mod Variables
 mod Claused
-mod Leveled
-mod NoPatterns
-mod Arming
+pub mod Leveled
+pub mod NoPatterns
+pub mod Arming
 mod Formed

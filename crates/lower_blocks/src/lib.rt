@@ -7,6 +7,9 @@
 //! A form is lowered by one function, which lowers its parts by a function value. The generators of
 //! a `for` and the arms of a `case` are open until what stands behind them is lowered: what is left
 //! of the code stands in them. The lists of those that are open are the only memory taken here.
+//!
+//! The public lemmas, which crates above cite, are those of `proofs/Behind`, `proofs/Listed`,
+//! `proofs/Leveled`, `proofs/Arming` and `proofs/NoPatterns`.
 #![tactic(auto)]
 
 pub mod blocks;

@@ -1,9 +1,10 @@
 -- The bodies of a program: their nodes, their size, and which is Main.
 use Rattle.std.proofs.Common.{◌≡◌, ℕ, zero, suc, ◌+◌, ◌*◌, ◌≤◌, List, [], ◌∷◌, ◌++◌, length, Bool, true, false, cond, Option, Some, None}
 use Rattle.std.proofs.Common.{refl, ap, ◌∙◌}
-use Rattle.std.proofs.Common.{arith, slice_get, length-append, All, unwrap_or}
+use Rattle.std.proofs.Common.{arith, slice_get, length-append, All}
 use Rattle.std.proofs.lemmas.List.Elements.{All-head, All-tail}
 use Rattle.std.proofs.lemmas.Option.{none-some}
+use Rattle.verse_base.proofs.Facts.{get_rest}
 use Rattle.verse_tree.specs.Tree.{Tree}
 use Rattle.verse_tree.specs.ItemTree.{FieldTree, FunTree, ParamTree, MemberTree, field, method, ItemTree, using, enumeration, class}
 use Rattle.verse_tree.specs.ItemTree.{function}
@@ -30,19 +31,6 @@ each_all P (x ∷ xs) h (suc k) d lt = each_all P xs h.1 k d (omega (arith, lt))
 pub all_each : {X : Type 0} (P : X → Type 0) (xs : List X) → All P xs → Each P xs
 all_each P [] h = tt
 all_each P (x ∷ xs) h = (All-head P x xs h, all_each P xs (All-tail P x xs h))
-
-pub some_is : {A : Type 0} {x y : A} → Some x ≡ Some y → x ≡ y
-some_is {x = x} e = ap (λ o. unwrap_or o x) e
-
-pub get_first : {X : Type 0} (xs ys : List X) (n : ℕ) (x : X) → slice_get xs n ≡ Some x → slice_get (xs ++ ys) n ≡ Some x
-get_first [] ys n x e = elim (none-some x e) [ ]
-get_first (y ∷ xs) ys zero x e = e
-get_first (y ∷ xs) ys (suc n) x e = get_first xs ys n x e
-
-get_rest : {X : Type 0} (xs ys : List X) (n : ℕ) → slice_get (xs ++ ys) (n + length xs) ≡ slice_get ys n
-get_rest [] ys n = let e : n + 0 ≡ n = omega arith in ap (slice_get ys) e
-get_rest (x ∷ xs) ys n = let e : n + length (x ∷ xs) ≡ suc (n + length xs) = omega arith in ap
-    (slice_get (x ∷ xs ++ ys)) e ∙ get_rest xs ys n
 
 -- the parameters of a function
 pub params_many : (xs : List ParamTree) (sc : Scope) → length (params_scope xs sc) ≡ length xs + length sc

@@ -2,7 +2,7 @@
 use Rattle.std.proofs.Common.{◌≡◌, ℕ, zero, suc, ◌≤◌, List, [], ◌∷◌, map, Bool, true, false, nat_lt, refl, sym, ap, ◌∙◌, arith, subst}
 use Rattle.std.proofs.Common.{ltb-true}
 use Rattle.std.proofs.Common.{true≢false, le-ltb, slice_get, Option, Some, None, length}
-use Rattle.std.proofs.lemmas.Option.{none-some}
+use Rattle.std.proofs.lemmas.Option.{none-some, same_Some}
 use Rattle.verse_base.specs.declared.places.Place.{Place}
 use Rattle.verse_tree.specs.Tree.{Bytes, Tree, Holes, no_holes, more_holes}
 use Rattle.verse_tree.specs.Tree as t
@@ -24,7 +24,7 @@ use Rattle.lower_bounds.specs.Laws.{HasNoDefer, DefersShow, FilesStand}
 use Rattle.lower_bounds.proofs.Lists.{Each, each_of, each_joined}
 use Rattle.lower_bounds.proofs.Kept.{Kept, IsLow, PiecesAre}
 use Rattle.lower_bounds.proofs.Forms.{piece_kept}
-use Rattle.lower_bounds.proofs.Bodies.{all_each, BodyHas, all_have, some_is}
+use Rattle.lower_bounds.proofs.Bodies.{all_each, BodyHas, all_have}
 
 abbrev pub IsLowItem : Item → Type 0
 IsLowItem (sure op) = IsLow op
@@ -184,8 +184,8 @@ class_sized p n c e = omega (arith, ap (class_count p) e)
 -- an operation of a list
 low_at : (is : List Item) (i : ℕ) (op : Op) → slice_get (map item_op is) i ≡ Some op → Each IsLowItem is → IsLow op
 low_at [] i op e h = elim (none-some op e) [ ]
-low_at (sure x ∷ is) zero op e h = subst IsLow (some_is e) h.0
-low_at (leaving n ∷ is) zero op e h = subst IsLow (some_is e) refl
+low_at (sure x ∷ is) zero op e h = subst IsLow (same_Some _ _ e) h.0
+low_at (leaving n ∷ is) zero op e h = subst IsLow (same_Some _ _ e) refl
 low_at (sure x ∷ is) (suc i) op e h = low_at is i op e h.1
 low_at (leaving n ∷ is) (suc i) op e h = low_at is i op e h.1
 

@@ -1,5 +1,5 @@
 -- Pieces are small: how many operations, places, texts and locals they have.
-use Rattle.std.proofs.Common.{◌≡◌, ℕ, zero, suc, ◌+◌, ◌≤◌, List, [], ◌∷◌, ◌++◌, map, length, max, Bool, true, false, refl, ap, arith}
+use Rattle.std.proofs.Common.{◌≡◌, ℕ, zero, suc, ◌+◌, ◌≤◌, List, [], ◌∷◌, map, length, Bool, true, false, refl, arith}
 use Rattle.std.proofs.Common.{length-append}
 use Rattle.std.specs.Prelude.{Option, Some, None}
 use Rattle.verse_base.specs.declared.places.Place.{Place}
@@ -9,12 +9,13 @@ use Rattle.verse_code.specs.declared.operations.Op.TheVariants as o
 use Rattle.verse_meaning.specs.Programs.{Program, fields_of}
 use Rattle.lower_code.specs.Pieces.{Spot, Item, sure, leaving, Maker, later, next, past, nothing, one, placed, numbering, texted}
 use Rattle.lower_code.specs.Pieces.{put_away, stuck}
-use Rattle.lower_code.specs.Pieces.{when, leave_loop, ahead, either, closing, from_here, looping, turning, using_locals, arms_at}
+use Rattle.lower_code.specs.Pieces.{when, leave_loop, ahead, either, closing, from_here, looping, turning, using_locals}
 use Rattle.lower_code.specs.Pieces.{arms_spot}
 use Rattle.lower_code.specs.Pieces.{closed, deepest, drops, ◌then◌}
 use Rattle.lower_code.specs.Defaults.{default_number}
 use Rattle.lower_code.specs.Lowering.{grouped, default_op}
 use Rattle.std.specs.Prelude.{nat_lt}
+use Rattle.lower_code.proofs.Depths.{deepest_more, arms_shallow, drops_shallow, closed_shallow, closed_length, arms_length}
 use Rattle.lower_bounds.proofs.Lists.{each_of}
 use Rattle.lower_bounds.proofs.Kept.{Kept, PiecesAre}
 
@@ -27,11 +28,6 @@ pub record Small (l h n : ℕ) (f : Maker) : Type 0 where
   pub places : (s : Spot) → length (f s).places ≤ n
   pub texts : (s : Spot) → length (f s).texts ≤ n
   pub locals : (s : Spot) → (f s).locals ≤ n + l
-
-deepest_more : (xs ys : List Item) → deepest (xs ++ ys) ≡ max (deepest xs) (deepest ys)
-deepest_more [] ys = omega arith
-deepest_more (sure op ∷ xs) ys = deepest_more xs ys
-deepest_more (leaving n ∷ xs) ys = omega (arith, deepest_more xs ys)
 
 pub small_wider : {l h n i j m : ℕ} {f : Maker} → l ≤ i → h ≤ j → n ≤ m → Small l h n f → Small i j m f
 small_wider p q r x = record {
@@ -193,19 +189,6 @@ drops_length : (d : ℕ) → length (drops d (sure o.Unit ∷ [])) ≡ d + 1
 drops_length zero = omega arith
 drops_length (suc d) = omega (arith, drops_length d)
 
-drops_shallow : (d : ℕ) → deepest (drops d (sure o.Unit ∷ [])) ≡ 0
-drops_shallow zero = refl
-drops_shallow (suc d) = drops_shallow d
-
-closed_shallow : (out : ℕ) (is : List Item) → deepest (map (closed out) is) ≡ 0
-closed_shallow out [] = refl
-closed_shallow out (sure op ∷ is) = closed_shallow out is
-closed_shallow out (leaving n ∷ is) = closed_shallow out is
-
-closed_length : (out : ℕ) (is : List Item) → length (map (closed out) is) ≡ length is
-closed_length out [] = refl
-closed_length out (i ∷ is) = ap suc (closed_length out is)
-
 -- the Drops of a loop are no more than the operands that lie above those of the loop, each of a node
 small_closing : {l h n : ℕ} {f : Maker} → Small l 0 n f → Small l h (suc n) (closing f)
 small_closing {f = f} x = record {
@@ -260,14 +243,6 @@ small_turning {l} {h} {n} {i} op le x = small_wider {l = l} {h = h} (omega arith
     (small_over {i = i} {j = h} 0 small_using
     (small_both (small_one o.Commit) (small_both (small_one op) (small_from (λ a. small_both (small_ahead o.Jump (small_ahead o.Try x))
     (small_one (o.Take l (suc (suc l)) (suc a))))))) (omega arith) (omega (arith, le)))
-
-arms_length : (ls : List ℕ) (is : List Item) → length (arms_at ls is) ≡ length ls + length is
-arms_length [] is = omega arith
-arms_length (l ∷ ls) is = omega (arith, arms_length ls is)
-
-arms_shallow : (ls : List ℕ) (is : List Item) → deepest (arms_at ls is) ≡ deepest is
-arms_shallow [] is = refl
-arms_shallow (l ∷ ls) is = arms_shallow ls is
 
 small_grouped : {l h n : ℕ} (kind m : ℕ) (pl : Place) (begins : Spot → List ℕ) (arms : Maker) → ((s : Spot) → length (begins s) ≡ m) →
     Small l 0 n arms → Small l h (2 + m + n) (grouped kind m pl begins arms)

@@ -2,8 +2,10 @@
 use Rattle.std.proofs.Common.{◌≡◌, ℕ, zero, suc, ◌+◌, ◌<◌, ◌≤◌, List, [], ◌∷◌, map, length, Bool, Option, Some, None, refl, sym, ap, ◌∙◌}
 use Rattle.std.proofs.Common.{arith, slice_get, subst}
 use Rattle.std.proofs.lemmas.List.Elements.{All-weaker, All-map}
-use Rattle.std.proofs.lemmas.Option.{none-some}
+use Rattle.std.proofs.lemmas.Option.{none-some, same_Some}
+use Rattle.std.proofs.lemmas.List.{length-map}
 use Rattle.verse_base.specs.declared.limits.TheConstants.{MOST_OPERATIONS}
+use Rattle.verse_base.proofs.Facts.{get_first}
 use Rattle.verse_tree.specs.PostOrder.{items_order, post_order}
 use Rattle.verse_tree.specs.Sizes.{fields_at, found_fields, class_fields}
 use Rattle.verse_tree.specs.declared.tables.ClassInfo.{ClassInfo}
@@ -34,8 +36,8 @@ use Rattle.lower_bounds.proofs.Sizes.{Small, sizes_kept, small_wider, small_both
 use Rattle.lower_bounds.proofs.Tables.{class_is}
 use Rattle.lower_bounds.proofs.Operands.{Suit, AllSuit, Room, Suits, suit_joined}
 use Rattle.lower_bounds.proofs.Validity.{functions_of, classes_of, operands_kept}
-use Rattle.lower_bounds.proofs.Bodies.{each_all, all_each, get_first, params_many, BodyHas, all_have, bodies_cost, all_cost, classes_many}
-use Rattle.lower_bounds.proofs.Bodies.{bodies_many, main_at, some_is}
+use Rattle.lower_bounds.proofs.Bodies.{each_all, all_each, params_many, BodyHas, all_have, bodies_cost, all_cost, classes_many}
+use Rattle.lower_bounds.proofs.Bodies.{bodies_many, main_at}
 
 -- the fields of a class by the number of an instance's node
 known_class : (p : Program) (r : Option (Option Ref)) (c : ℕ) → known r ≡ Some (ref.Class c) → found_fields p.names r ≡ class_fields
@@ -51,10 +53,6 @@ fields_few p agree n c e = omega (arith, known_class p (slice_get p.names.refs n
 behind_length : {A : Type 0} (xs : List A) (n : ℕ) → behind xs n ≡ length xs + n
 behind_length [] n = omega arith
 behind_length (x ∷ xs) n = omega (arith, behind_length xs (suc n))
-
-map_length : {A B : Type 0} (f : A → B) (xs : List A) → length (map f xs) ≡ length xs
-map_length f [] = refl
-map_length f (x ∷ xs) = ap suc (map_length f xs)
 
 module _ (p : Program) (differ : ℕ → ℕ → Bool) where
   -- the size
@@ -78,7 +76,7 @@ module _ (p : Program) (differ : ℕ → ℕ → Bool) where
 
     pub code_small : (files : ℕ) → IsWithin (size_of p) (code_of p differ files)
     code_small files = record {
-      ops = omega (arith, map_length item_op (whole p differ).items, all_small.few first_spot, all_cost (fields_at p.names) p.items);
+      ops = omega (arith, length-map (whole p differ).items item_op, all_small.few first_spot, all_cost (fields_at p.names) p.items);
       places = omega (arith, all_small.places first_spot, all_cost (fields_at p.names) p.items);
       texts = omega (arith, all_small.texts first_spot, all_cost (fields_at p.names) p.items);
     }
@@ -123,8 +121,8 @@ suit_at : (z : Sizes) (is : List Item) (at i : ℕ) (op : Op) → slice_get (map
 suit_at z [] at i op e h = elim (none-some op e) [ ]
 suit_at z (sure x ∷ is) at zero op e h =
     let here : 0 + at ≡ at = omega arith in
-    subst (λ y. Suit z (0 + at) y) (some_is e) (subst (λ n. Suit z n x) (sym here) h.0)
-suit_at z (leaving n ∷ is) at zero op e h = subst (λ y. Suit z (0 + at) y) (some_is e) refl
+    subst (λ y. Suit z (0 + at) y) (same_Some _ _ e) (subst (λ n. Suit z n x) (sym here) h.0)
+suit_at z (leaving n ∷ is) at zero op e h = subst (λ y. Suit z (0 + at) y) (same_Some _ _ e) refl
 suit_at z (sure x ∷ is) at (suc i) op e h =
     let there : i + suc at ≡ suc i + at = omega arith in
     subst (λ n. Suit z n op) there (suit_at z is (suc at) i op e h.1)
@@ -143,7 +141,7 @@ func_at p differ (x ∷ bs) s zero b e = (
   func_of p differ s x (body_piece p differ x s),
   refl,
   ap (λ (y : Body). length y.scope)
-      (some_is e),
+      (same_Some _ _ e),
 )
 func_at p differ (x ∷ bs) s (suc m) b e = func_at p differ bs (past s (body_piece p differ x s)) m b e
 
@@ -153,7 +151,7 @@ bodies_count fields (b ∷ bs) = omega (arith, bodies_count fields bs, cost_some
 
 each_get : {X : Type 0} (P : X → Type 0) (xs : List X) (n : ℕ) (x : X) → slice_get xs n ≡ Some x → Each P xs → P x
 each_get P [] n x e h = elim (none-some x e) [ ]
-each_get P (y ∷ xs) zero x e h = subst P (some_is e) h.0
+each_get P (y ∷ xs) zero x e h = subst P (same_Some _ _ e) h.0
 each_get P (y ∷ xs) (suc n) x e h = each_get P xs n x e h.1
 
 module _ (p : Program) (differ : ℕ → ℕ → Bool) (files : ℕ) (able : CanBeLowered p files) where
@@ -242,7 +240,7 @@ module _ (p : Program) (differ : ℕ → ℕ → Bool) (files : ℕ) (able : Can
 
   ends : (past first_spot (whole p differ)).at ≡ length code.ops
   ends = let e : length (whole p differ).items + 0 ≡ length (whole p differ).items = omega arith in
-      behind_length (whole p differ).items 0 ∙ e ∙ sym (map_length item_op (whole p differ).items)
+      behind_length (whole p differ).items 0 ∙ e ∙ sym (length-map (whole p differ).items item_op)
 
   calls_there : functions_of p ≤ length code.functions
   calls_there = omega (arith, able.tables.functions, bodies_many p.items, funcs_length p differ bodies first_spot)
@@ -256,7 +254,7 @@ module _ (p : Program) (differ : ℕ → ℕ → Bool) (files : ℕ) (able : Can
     places = omega (arith, behind_length (whole p differ).places 0);
     texts = omega (arith, behind_length (whole p differ).texts 0);
     calls = calls_there;
-    objects = omega (arith, map_length class_of p.names.classes);
+    objects = omega (arith, length-map p.names.classes class_of);
   }
 
   -- Main, and that it is one of the functions
@@ -294,7 +292,7 @@ module _ (p : Program) (differ : ℕ → ℕ → Bool) (files : ℕ) (able : Can
           texts = omega (arith, small.texts, able.size);
           places = omega (arith, small.places, able.size);
           functions = omega (arith, funcs_length p differ bodies first_spot, bodies_count (fields_at p.names) bodies, cost_within);
-          classes = omega (arith, map_length class_of p.names.classes, able.tables.classes, classes_many p.items, able.size);
+          classes = omega (arith, length-map p.names.classes class_of, able.tables.classes, classes_many p.items, able.size);
         };
         texts = each_all IsText code.texts (bodies_texts bodies nodes_fit first_spot);
         places = each_all (IsPlace files) code.places (bodies_places bodies nodes_fit first_spot);

@@ -11,7 +11,7 @@ use Rattle.lower_expr.specs.Building.{Built, made}
 two_parts : (t : Two) → two_of t ≡ (tree_of (out-Two t).left, tree_of (out-Two t).right)
 two_parts t = search (rules, the_lemmas)
 
-applied_parts : (t : Applied) → applied_of t ≡ (tree_of (out-Applied t).callee, map tree_of (out-Applied t).args)
+pub applied_parts : (t : Applied) → applied_of t ≡ (tree_of (out-Applied t).callee, map tree_of (out-Applied t).args)
 applied_parts t = search (rules, the_lemmas)
 
 pub left_is : (t : Two) → tree_of (out-Two t).left ≡ (two_of t).0

@@ -16,11 +16,11 @@ use Rattle.lower_calls.specs.Aims.{Aimed, at_name, at_member, at_index, at_other
 use Rattle.lower_calls.specs.Aims.{before, beneath, under, operands_to, bottom_code, level_code, target_code, aim_code}
 use Rattle.lower_calls.proofs.Unders.{under_next}
 
-abbrev levels_at : Aimed → ℕ
+abbrev pub levels_at : Aimed → ℕ
 levels_at (at_index b ts) = suc (levels b)
 levels_at other = 0
 
-abbrev operands_at : Aimed → ℕ
+abbrev pub operands_at : Aimed → ℕ
 operands_at (at_index b ts) = operands_to (target_operands b) (at_index b ts)
 operands_at other = 0
 
@@ -93,13 +93,13 @@ module _ (p : Program) (base : Base) (sc : Scope) (a : Around) where
   code_at : (b : Tree) → target_code p b base sc a ≡ aim_code p (aimed b) base sc a
   code_at (tree n pl s) = (aims s).0
 
-  operands_are : (b : Tree) → target_operands b ≡ operands_at (aimed b)
+  pub operands_are : (b : Tree) → target_operands b ≡ operands_at (aimed b)
   operands_are (tree n pl s) = (aims s).1
 
-  levels_are : (b : Tree) (m : Aimed) → aimed b ≡ m → levels b ≡ levels_at m
+  pub levels_are : (b : Tree) (m : Aimed) → aimed b ≡ m → levels b ≡ levels_at m
   levels_are (tree n pl s) m e = (aims s).2 ∙ ap levels_at e
 
-  levels_beneath : (b : Tree) → levels (beneath b) ≡ levels b - 1
+  pub levels_beneath : (b : Tree) → levels (beneath b) ≡ levels b - 1
   levels_beneath b = by (aimed b) refl
     where
       same : (m : Aimed) → aimed b ≡ m → levels (beneath b) ≡ levels (before m b)
@@ -111,7 +111,7 @@ module _ (p : Program) (base : Base) (sc : Scope) (a : Around) where
       by (at_index c ts) e = omega (arith, same (at_index c ts) e, levels_are b (at_index c ts) e)
       by at_other e = omega (arith, same at_other e, levels_are b at_other e)
 
-  levels_under : (n : ℕ) (b : Tree) → levels (under n b) ≡ levels b - n
+  pub levels_under : (n : ℕ) (b : Tree) → levels (under n b) ≡ levels b - n
   levels_under zero b = omega arith
   levels_under (suc n) b = omega (arith, levels_beneath (under n b), levels_under n b)
 
@@ -129,7 +129,7 @@ module _ (p : Program) (base : Base) (sc : Scope) (a : Around) where
       by (at_index c ts) e = absurd (omega (arith, h, levels_are b (at_index c ts) e))
       by at_other e = same at_other e refl
 
-  no_operands : (b : Tree) → levels b ≡ 0 → target_operands b ≡ 0
+  pub no_operands : (b : Tree) → levels b ≡ 0 → target_operands b ≡ 0
   no_operands b h = by (aimed b) refl
     where
       by : (m : Aimed) → aimed b ≡ m → target_operands b ≡ 0
@@ -154,7 +154,7 @@ module _ (p : Program) (base : Base) (sc : Scope) (a : Around) where
           (λ m. target_code p (before m b) base sc a then level_code p (target_operands (before m b)) m sc a) e)
       by at_other e = absurd (omega (arith, h, levels_are b at_other e))
 
-  level_operands : (b : Tree) → 0 < levels b → target_operands b ≡ operands_to (target_operands (beneath b)) (aimed b)
+  pub level_operands : (b : Tree) → 0 < levels b → target_operands b ≡ operands_to (target_operands (beneath b)) (aimed b)
   level_operands b h = by (aimed b) refl
     where
       by : (m : Aimed) → aimed b ≡ m → target_operands b ≡ operands_to (target_operands (beneath b)) (aimed b)
@@ -189,10 +189,10 @@ module _ (p : Program) (base : Base) (sc : Scope) (a : Around) where
       is ∙ ap (λ n. target_operands (under n b)) none
 
   module _ (b part : Tree) (left next n : ℕ) where
-    behind_one : left ≡ next + 1 → under left b ≡ beneath (under next b)
+    pub behind_one : left ≡ next + 1 → under left b ≡ beneath (under next b)
     behind_one e = ap (λ n. under n b) e ∙ under_next next b
 
-    one_left : left ≡ next + 1 → left ≤ levels b → 0 < levels (under next b)
+    pub one_left : left ≡ next + 1 → left ≤ levels b → 0 < levels (under next b)
     one_left e h = omega (arith, e, h, levels_under next b)
 
     pub target_next : (here : Scope) (x mid last : Built) → left ≡ next + 1 → left ≤ levels b →

@@ -1,11 +1,11 @@
-mod Steps
+pub mod Steps
 mod Arms
 mod NoParts
-mod Halves
+pub mod Halves
 mod Aiming
-mod Unders
-mod Indices
+pub mod Unders
+pub mod Indices
 mod Storing
 mod RuleSets
 mod Objects
-mod Seen
+pub mod Seen

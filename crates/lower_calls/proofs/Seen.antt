@@ -34,13 +34,13 @@ module _ (p : Program) (n : ℕ) (pl : Place) (sc : Scope) (a : Around) (whole f
   by_value e = absurd (cc (e))
 
   -- no name stands for what has an object
-  no_builtin : {A : Type 0} (b : ℕ) → builtin b pl ≡ of_object f → A
+  pub no_builtin : {A : Type 0} (b : ℕ) → builtin b pl ≡ of_object f → A
   no_builtin zero e = absurd (cc (e))
   no_builtin (suc zero) e = absurd (cc (e))
   no_builtin (suc (suc zero)) e = absurd (cc (e))
   no_builtin (suc (suc (suc b))) e = absurd (cc (e))
 
-  no_name : {A : Type 0} (r : Option Ref) → named_callee r whole pl ≡ of_object f → A
+  pub no_name : {A : Type 0} (r : Option Ref) → named_callee r whole pl ≡ of_object f → A
   no_name None e = absurd (cc (e))
   no_name (Some (ref.Local x)) e = absurd (cc (e))
   no_name (Some (ref.Key x)) e = absurd (cc (e))

@@ -7,6 +7,9 @@
 //! behind a dot; `views`, the parts of callees and operands; `actions`, actions on their operands;
 //! `calls`, calls, indices, and calls that are spawned; `aims`, the indices of what `set` writes
 //! to, and `bases`, what they lead from; `targets`, `set`.
+//!
+//! The public lemmas, which crates above cite, are those of `proofs/Halves`, `proofs/Steps`,
+//! `proofs/Unders`, `proofs/Indices` and `proofs/Seen`.
 #![tactic(auto)]
 
 pub mod actions;

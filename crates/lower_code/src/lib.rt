@@ -8,7 +8,8 @@
 //! their defaults; `Lowering`, one case for each form; `Programs`, functions, tables and the whole
 //! code. In `src/`, `arounds` has the values of `Arounds` for the code.
 //!
-//! The public lemmas, which crates above cite, are those of `proofs/Standing`.
+//! The public lemmas, which crates above cite, are those of `proofs/Standing`, `proofs/Depths` and
+//! `proofs/Scopes`.
 #![tactic(auto)]
 
 pub mod arounds;

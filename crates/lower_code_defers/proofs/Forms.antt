@@ -139,7 +139,7 @@ module _ (p : Program) (differ : ℕ → ℕ → Bool) (f : Found) where
     shape_counts (t.Shape.variable y w b) n pl v u a xs sc z h = so (typed_part w b)
         (then_other (counts b (behind_type w b u) a xs sc z h.0) (binds p differ (a_variable y pl) _))
     shape_counts (t.Shape.assignment y b c) n pl v u a xs sc z h =
-        pair b c (target_counts b (left b c u) (base_of p b) a xs sc z h.0)
+        pair b c (target_counts b (left b c u) (base_of p b) a xs sc z h.0.0)
         (then_other (counts c (right b c u) a xs sc (up (raised (target_operands b) z)) h.1)
         (else_stuck p differ (has_base p differ b (base_of p b) sc)
         (numbered pl _ (λ m. stores p differ (mode_of y) _ _ m _ _))))
@@ -245,7 +245,7 @@ module _ (p : Program) (differ : ℕ → ℕ → Bool) (f : Found) where
         (then_other (args_counts ts rest a xs sc (started x z) g.0) (finishes_alone p differ x (how_many ts) sc))))
         (λ x i g. so (omega (arith, sum)) (both (object_counts b first a xs sc z g.0)
         (then_other (args_counts ts rest a xs sc (up z) g.1) (finishes_so p differ x (how_many ts) i))))
-        (λ x e i g. so (omega (arith, sum)) (both (counts b first a xs sc z g.0)
+        (λ x e i g. so (omega (arith, sum)) (both (counts b first a xs sc z g.0.0)
         (then_other (args_counts ts rest a xs sc (up z) g.1) (finishes_so p differ x (how_many ts) i))))
         (λ x i e w g. so (omega (arith, sum, e)) (then_other (quotient_counts ts rest a xs sc z n x w g)
         (finishes_so p differ x 2 i)))
@@ -266,7 +266,7 @@ module _ (p : Program) (differ : ℕ → ℕ → Bool) (f : Found) where
     shape_counts (t.Shape.array ts) n pl v u a xs sc z h =
         then_other (args_counts ts u a xs sc z h.0) (at_place pl (o.Array (how_many ts)) (λ m. (refl, refl)))
     shape_counts (t.Shape.mapping ps) n pl v u a xs sc z h =
-        then_other (pairs_counts ps u a xs sc z h.0) (at_place pl (o.Map (pairs_in ps)) (λ m. (refl, refl)))
+        then_other (pairs_counts ps u a xs sc z h.0.0) (at_place pl (o.Map (pairs_in ps)) (λ m. (refl, refl)))
     shape_counts (t.Shape.instance y gs) n pl v u a xs sc z h =
         makes p differ (class_ref p (ref_at p n)) h.0 pl gs (length sc) h.1 (givens_counts gs u a xs sc z h.2)
     shape_counts (t.Shape.event w) n pl v u a xs sc z h =

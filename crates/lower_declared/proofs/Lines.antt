@@ -1,29 +1,20 @@
 -- One step up from a class, and the fields of what is above it.
 use Rattle.std.proofs.Common.{◌≡◌, ℕ, zero, suc, ◌+◌, ◌-◌, ◌<◌, ◌≤◌, List, [], ◌∷◌, ◌++◌, map, refl, ap, sym, ◌∙◌, arith, append_assoc}
-use Rattle.std.specs.Prelude.{Option, Some, None, slice_get}
+use Rattle.std.proofs.Common.{append-nil}
+use Rattle.std.specs.Prelude.{Option, Some, None}
 use denote.Ref.{Bor}
 use Rattle.verse_tree.specs.ItemTree.{FieldTree, ClassTree}
 use Rattle.verse_tree.specs.ItemView.{class_of}
 use Rattle.verse_tree.specs.declared.items.ClassItem.{ClassItem}
-use Rattle.verse_meaning_state.specs.Waits.{nth}
 use Rattle.verse_meaning.specs.Programs.{own_fields, parent_of, fields_from}
 use Rattle.lower_declared.specs.Views.{class_now, all_taken}
 use Rattle.lower_declared.specs.Fields.{last, line, all_above}
-
-pub nth_is : {A : Type 0} (xs : List A) (n : ℕ) → nth xs n ≡ slice_get xs n
-nth_is [] n = refl
-nth_is (x ∷ xs) zero = refl
-nth_is (x ∷ xs) (suc n) = nth_is xs n
 
 down : (n i : ℕ) → i < n → n - i ≡ suc (n - (i + 1))
 down n i h = omega arith
 
 none : (n i : ℕ) → n ≤ i → n - i ≡ zero
 none n i h = omega arith
-
-append_nil : {A : Type 0} (xs : List A) → xs ++ [] ≡ xs
-append_nil [] = refl
-append_nil (x ∷ xs) = ap (λ l. x ∷ l) (append_nil xs)
 
 empty : (n : ℕ) (cs : List ClassTree) → line n cs None ≡ []
 empty zero cs = refl
@@ -36,7 +27,7 @@ module _ (cs found : List ClassTree) where
       sym (append_assoc found (c ∷ []) (line (n - (i + 1)) cs (parent_of cs c.parent)))
 
   pub top : (n : ℕ) → found ++ line n cs None ≡ found
-  top n = ap (λ l. found ++ l) (empty n cs) ∙ append_nil found
+  top n = ap (λ l. found ++ l) (empty n cs) ∙ append-nil found
 
   pub end : (n i : ℕ) (o : Option ClassTree) → n ≤ i → found ++ line (n - i) cs o ≡ found ++ last o
   end n i o h = ap (λ m. found ++ line m cs o) (none n i h)
@@ -50,7 +41,7 @@ line_fields (suc n) cs (Some c) = ap (λ l. l ++ own_fields c.members) (line_fie
 -- the last class of a list comes first
 last_taken : (cs : List (Bor ClassItem)) (c : Bor ClassItem) → all_taken (cs ++ c ∷ []) ≡
     own_fields (class_of c.now).members ++ all_taken cs
-last_taken [] c = sym (append_nil (own_fields (class_of c.now).members))
+last_taken [] c = sym (append-nil (own_fields (class_of c.now).members))
 last_taken (d ∷ cs) c = ap (λ l. l ++ own_fields (class_of d.now).members) (last_taken cs c) ∙
     append_assoc (own_fields (class_of c.now).members) (all_taken cs) (own_fields (class_of d.now).members)
 

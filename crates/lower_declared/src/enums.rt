@@ -59,7 +59,7 @@ fn value_of(of: u32, item: &EnumItem, name: &[u8]) -> Result<Option<EnumValue>, 
 }
 
 /// The value of the enum of a number by its name.
-#[tactic(auto, using(crate::proofs::Lines::nth_is))]
+#[tactic(auto, using(verse_meaning_state::proofs::Numbers::nth_is))]
 pub fn enum_value(enums: &[&EnumItem], of: u32, name: &[u8]) -> Result<Option<EnumValue>, Memory>
     ensures { IfOk result (λ r. option_map val_of r ≡
         p.value_in of name.now (nth (map enum_now enums.now) of)) }

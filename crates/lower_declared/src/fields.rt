@@ -89,7 +89,7 @@ fn take_fields<'a>(alloc: Global, line: &mut Items<&'a ClassItem>) -> Result<Vec
     Ok(found)
 }
 
-#[tactic(auto, using(crate::proofs::Lines::nth_is))]
+#[tactic(auto, using(verse_meaning_state::proofs::Numbers::nth_is))]
 fn class_at<'a>(classes: &[&'a ClassItem], class: u32) -> Option<&'a ClassItem>
     ensures { option_map class_now result ≡ nth (map class_now classes.now) class }
 {

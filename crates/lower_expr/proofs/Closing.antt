@@ -1,14 +1,14 @@
 -- The end of a loop: the jumps out of it get their labels.
 use Rattle.std.proofs.Common.{◌≡◌, ℕ, zero, suc, ◌+◌, ◌-◌, List, [], ◌∷◌, ◌++◌, length, map, drop, take, refl, sym, ap, ◌∙◌, arith}
-use Rattle.std.proofs.Common.{append_assoc, length-append}
+use Rattle.std.proofs.Common.{append_assoc, length-append, append-nil}
 use Rattle.std.specs.Prelude.{max, Some, slice_get, slice_set}
-use Rattle.std.proofs.Math.Seq.{set-append_seam}
+use Rattle.std.proofs.Math.Seq.{set-append_seam, drop-append_seam, take-append_seam}
 use Rattle.verse_code.specs.declared.operations.Op.{Op}
 use Rattle.verse_code.specs.declared.operations.Op.TheVariants as o
 use Rattle.lower_code.specs.Pieces.{Item, sure, leaving, Piece, Maker, behind, later, closed, deepest, drops, closing}
 use Rattle.lower_expr.specs.Building.{Built, pushed, raw, opened, spot, with_piece, made, height_of, deepest_at, closed_op, closed_at}
 use Rattle.lower_expr.specs.Building.{dropped, all_closed, with_exits, loop_ended}
-use Rattle.lower_expr.proofs.Laws.{map_more, opened_more, ops_behind, list_behind, nothing_behind}
+use Rattle.lower_expr.proofs.Laws.{map_more, opened_more, ops_behind, list_behind}
 
 get_at : (xs ys : List Op) (op : Op) (n : ℕ) → n ≡ length xs → slice_get (xs ++ op ∷ ys) n ≡ Some op
 get_at xs ys op n e = ap (λ i. slice_get (xs ++ op ∷ ys) i) e ∙ seam xs
@@ -52,7 +52,7 @@ deepest_is (leaving h ∷ is) xs zs n e =
 
 dropped_is : (d : ℕ) (b : Built) → dropped d b ≡ record b { ops = b.ops ++ map raw (drops d []) }
 unfolding pushed
-dropped_is zero b = ap (λ k. record b { ops = k }) (sym (nothing_behind b.ops))
+dropped_is zero b = ap (λ k. record b { ops = k }) (sym (append-nil b.ops))
 dropped_is (suc d) b = dropped_is d (record b { ops = b.ops ++ o.Drop ∷ [] }) ∙
     ap (λ k. record b { ops = k }) (append_assoc b.ops (o.Drop ∷ []) (map raw (drops d [])))
 
@@ -73,14 +73,6 @@ opened_closed out [] a = refl
 opened_closed out (sure op ∷ is) a = opened_closed out is (suc a)
 opened_closed out (leaving n ∷ is) a = opened_closed out is (suc a)
 
-drop_front : (xs ys : List ℕ) → drop (length xs) (xs ++ ys) ≡ ys
-drop_front [] ys = refl
-drop_front (x ∷ xs) ys = drop_front xs ys
-
-take_front : (xs ys : List ℕ) → take (length xs) (xs ++ ys) ≡ xs
-take_front [] ys = refl
-take_front (x ∷ xs) ys = ap (λ k. x ∷ k) (take_front xs ys)
-
 pub made_closing : (f : Maker) (b : Built) → made (closing f) b ≡ loop_ended (length b.exits) (made f b)
 unfolding made loop_ended all_closed with_exits pushed
 made_closing f b =
@@ -93,9 +85,9 @@ made_closing f b =
     let es : List ℕ = opened p.items (length a) in
     let out : ℕ = later d (behind p.items (length a)) in
     let q : List Op = map raw (drops d []) in
-    let front : drop m w.exits ≡ es = drop_front b.exits es in
+    let front : drop m w.exits ≡ es = drop-append_seam b.exits es in
     let depth : deepest_at (drop m w.exits) w.ops ≡ d =
-    ap (λ k. deepest_at k w.ops) front ∙ ap (λ k. deepest_at es (a ++ k)) (sym (nothing_behind ps)) ∙
+    ap (λ k. deepest_at k w.ops) front ∙ ap (λ k. deepest_at es (a ++ k)) (sym (append-nil ps)) ∙
     deepest_is p.items a [] (length a) refl in
     let v : Built = record w { ops = w.ops ++ q } in
     let fell : dropped (deepest_at (drop m w.exits) w.ops) w ≡ v = ap (λ n. dropped n w) depth ∙ dropped_is d w in
@@ -115,7 +107,7 @@ made_closing f b =
     ap (λ k. b.exits ++ k) (opened_more (map (closed out) p.items) (drops d (sure o.Unit ∷ [])) (length a)
     ∙ ap (λ k. k ++ opened (drops d (sure o.Unit ∷ [])) (behind (map (closed out) p.items) (length a)))
     (opened_closed out p.items (length a)) ∙ opened_drops d (behind (map (closed out) p.items) (length a)))
-    ∙ nothing_behind b.exits ∙ sym (take_front b.exits es) in
+    ∙ append-nil b.exits ∙ sym (take-append_seam b.exits es) in
     let done : record w {
       ops = a ++ map raw (map (closed out) p.items ++ drops d (sure o.Unit ∷ []));
       exits =

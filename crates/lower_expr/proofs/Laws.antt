@@ -1,5 +1,6 @@
 -- What a maker that is put together of others adds to the code so far.
-use Rattle.std.proofs.Common.{◌≡◌, ℕ, suc, ◌+◌, List, [], ◌∷◌, ◌++◌, length, map, refl, sym, ap, ◌∙◌, arith, append_assoc, length-append}
+use Rattle.std.proofs.Common.{◌≡◌, ℕ, suc, List, [], ◌∷◌, ◌++◌, length, map, refl, sym, ap, ◌∙◌, arith, append_assoc, length-append}
+use Rattle.std.proofs.Common.{append-nil}
 use Rattle.std.specs.Prelude.{max, Some, slice_get, slice_set}
 use Rattle.verse_base.specs.declared.places.Place.{Place}
 use Rattle.verse_tree.specs.Tree.{Bytes}
@@ -9,16 +10,13 @@ use Rattle.lower_code.specs.Pieces.{Spot, Item, sure, leaving, Piece, Maker, beh
 use Rattle.lower_code.specs.Pieces.{placed, numbering, texted, put_away, stuck, leave_loop, ahead, either, either_of, from_here}
 use Rattle.lower_code.specs.Pieces.{using_locals}
 use Rattle.std.proofs.Math.Seq.{set-append_seam}
+use Rattle.lower_code.proofs.Standing.{behind_is}
 use Rattle.lower_expr.specs.Building.{Built, pushed, with_place, with_text, with_local, opened_jump, relabelled, patched, patched_ops}
 use Rattle.lower_expr.specs.Building.{ended_here, raw, opened, spot, with_piece, made}
 
 pub length_raw : (is : List Item) → length (map raw is) ≡ length is
 length_raw [] = refl
 length_raw (i ∷ is) = ap suc (length_raw is)
-
-pub behind_is : {A : Type 0} (xs : List A) (n : ℕ) → behind xs n ≡ n + length xs
-behind_is [] n = omega arith
-behind_is (x ∷ xs) n = omega (arith, behind_is xs (suc n))
 
 pub map_more : (is js : List Item) → map raw (is ++ js) ≡ map raw is ++ map raw js
 map_more [] js = refl
@@ -64,10 +62,6 @@ made_then f g b =
 pub max_more : (a b c : ℕ) → max a (max b c) ≡ max (max a b) c
 max_more a b c = omega arith
 
-pub nothing_behind : {A : Type 0} (xs : List A) → xs ++ [] ≡ xs
-nothing_behind [] = refl
-nothing_behind (x ∷ xs) = ap (λ k. x ∷ k) (nothing_behind xs)
-
 most_of : (n : ℕ) → max n 0 ≡ n
 most_of n = omega arith
 
@@ -75,44 +69,44 @@ pub made_nothing : (b : Built) → made nothing b ≡ b
 unfolding made
 made_nothing b =
     ap (λ k. record b { ops = k; exits = b.exits ++ []; places = b.places ++ []; texts = b.texts ++ []; locals = max b.locals 0 })
-    (nothing_behind b.ops) ∙ ap (λ k. record b { exits = k; places = b.places ++ []; texts = b.texts ++ []; locals = max b.locals 0 })
-    (nothing_behind b.exits) ∙ ap (λ k. record b { places = k; texts = b.texts ++ []; locals = max b.locals 0 }) (nothing_behind b.places)
-    ∙ ap (λ k. record b { texts = k; locals = max b.locals 0 }) (nothing_behind b.texts)
+    (append-nil b.ops) ∙ ap (λ k. record b { exits = k; places = b.places ++ []; texts = b.texts ++ []; locals = max b.locals 0 })
+    (append-nil b.exits) ∙ ap (λ k. record b { places = k; texts = b.texts ++ []; locals = max b.locals 0 }) (append-nil b.places)
+    ∙ ap (λ k. record b { texts = k; locals = max b.locals 0 }) (append-nil b.texts)
     ∙ ap (λ k. record b { locals = k }) (most_of b.locals)
 
 pub made_one : (op : Op) (b : Built) → made (one op) b ≡ pushed op b
 unfolding made pushed
-made_one op b = cc (nothing_behind b.exits, nothing_behind b.places, nothing_behind b.texts, most_of b.locals)
+made_one op b = cc (append-nil b.exits, append-nil b.places, append-nil b.texts, most_of b.locals)
 
 pub made_placed : (p : Place) (op : ℕ → Op) (b : Built) → made (placed p op) b ≡ pushed (op (length b.places)) (with_place p b)
 unfolding made pushed with_place
-made_placed p op b = cc (nothing_behind b.exits, nothing_behind b.texts, most_of b.locals)
+made_placed p op b = cc (append-nil b.exits, append-nil b.texts, most_of b.locals)
 
 pub made_numbering : (p : Place) (f : ℕ → Maker) (b : Built) → made (numbering p f) b ≡ made (f (length b.places)) (with_place p b)
 unfolding made with_place
 made_numbering p f b =
     let q : Piece = record { items = []; places = p ∷ []; texts = []; locals = 0 } in
     let e : with_piece b q ≡ record b { places = b.places ++ p ∷ [] } =
-    cc (nothing_behind b.ops, nothing_behind b.exits, nothing_behind b.texts, most_of b.locals) in
+    cc (append-nil b.ops, append-nil b.exits, append-nil b.texts, most_of b.locals) in
     with_joined b q (f (length b.places) (past (spot b) q)) ∙
     ap (λ s. with_piece (with_piece b q) (f (length b.places) s)) (sym (spot_past b q)) ∙
     ap (λ b1. with_piece b1 (f (length b.places) (spot b1))) e
 
 pub made_texted : (bs : Bytes) (b : Built) → made (texted bs) b ≡ pushed (o.Text (length b.texts)) (with_text bs b)
 unfolding made pushed with_text
-made_texted bs b = cc (nothing_behind b.exits, nothing_behind b.places, most_of b.locals)
+made_texted bs b = cc (append-nil b.exits, append-nil b.places, most_of b.locals)
 
 pub made_put_away : (l : ℕ) (b : Built) → made (put_away l) b ≡ pushed (o.Put l) (with_local l b)
 unfolding made pushed with_local
-made_put_away l b = cc (nothing_behind b.exits, nothing_behind b.places, nothing_behind b.texts)
+made_put_away l b = cc (append-nil b.exits, append-nil b.places, append-nil b.texts)
 
 pub made_stuck : (b : Built) → made stuck b ≡ pushed (o.Arm (suc (length b.ops))) b
 unfolding made pushed
-made_stuck b = cc (nothing_behind b.exits, nothing_behind b.places, nothing_behind b.texts, most_of b.locals)
+made_stuck b = cc (append-nil b.exits, append-nil b.places, append-nil b.texts, most_of b.locals)
 
 pub made_leave_loop : (n : ℕ) (b : Built) → made (leave_loop n) b ≡ opened_jump n b
 unfolding made opened_jump
-made_leave_loop n b = cc (nothing_behind b.places, nothing_behind b.texts, most_of b.locals)
+made_leave_loop n b = cc (append-nil b.places, append-nil b.texts, most_of b.locals)
 
 -- the operation at the end of a list, with others behind it
 get_seam : (xs ys : List Op) (op : Op) → slice_get (xs ++ op ∷ ys) (length xs) ≡ Some op
@@ -180,7 +174,7 @@ made_from_here f b = refl
 
 pub made_using_locals : (n : ℕ) (b : Built) → made (using_locals n) b ≡ record b { locals = max b.locals n }
 unfolding made
-made_using_locals n b = cc (nothing_behind b.ops, nothing_behind b.exits, nothing_behind b.places, nothing_behind b.texts)
+made_using_locals n b = cc (append-nil b.ops, append-nil b.exits, append-nil b.places, append-nil b.texts)
 
 -- an operation gets its label, with others behind it
 pub patch_seam : (xs ys all : List Op) (op : Op) (n l : ℕ) → all ≡ xs ++ op ∷ ys → n ≡ length xs →

@@ -1,5 +1,5 @@
 -- Ends that are open, from the innermost on.
-use Rattle.std.proofs.Common.{◌≡◌, ℕ, ◌+◌, ◌<◌, ◌≤◌, List, [], ◌∷◌, ◌++◌, length, take, take_all, get_or, refl, sym, ap, ◌∙◌, arith}
+use Rattle.std.proofs.Common.{◌≡◌, ℕ, ◌+◌, ◌<◌, List, [], ◌∷◌, ◌++◌, length, take, get_or, refl, sym, ap, ◌∙◌}
 use Rattle.std.proofs.lemmas.List.{take_more}
 use Rattle.lower_expr.specs.Building.{Built, ended_here}
 use Rattle.lower_fail.specs.declared.loops.Turn.{Turn}
@@ -26,8 +26,3 @@ pub turns_next : (ts : List Turn) (m n : ℕ) (d : Turn) (b c r : Built) → m �
 turns_next ts m n d b c r e h g f =
     ap (turns_closed (take n ts)) g ∙ sym (one_more_turn (take n ts) (get_or ts n d) b) ∙
     ap (λ k. turns_closed k b) (sym (take_more ts n d h)) ∙ ap (λ k. turns_closed (take k ts) b) (sym e) ∙ f
-
-pub all_taken : {A : Type 0} (xs : List A) → take (length xs) xs ≡ xs
-all_taken xs =
-    let all : length xs ≤ length xs = omega arith in
-    take_all (length xs) xs all

@@ -1,7 +1,7 @@
 -- The code of a whole program: its flow comes to no place at which an arm stands.
 use Rattle.std.proofs.Common.{◌≡◌, ℕ, zero, suc, ◌+◌, ◌<◌, ◌≤◌, List, [], ◌∷◌, map, length, Bool, true, false}
 use Rattle.std.proofs.Common.{Option, Some, None, refl, sym, ap, ◌∙◌, arith, subst, ◌⊎◌, inl, inr, true≢false, slice_get}
-use Rattle.std.proofs.lemmas.Option.{none-some}
+use Rattle.std.proofs.lemmas.Option.{none-some, same_Some}
 use Rattle.verse_tree.specs.PostOrder.{items_order}
 use Rattle.verse_code.specs.declared.operations.Op.{Op}
 use Rattle.verse_code.specs.declared.operations.Op.TheVariants as o
@@ -12,7 +12,7 @@ use Rattle.verse_sound_rules.specs.Programs.{FineFound}
 use Rattle.lower_code.specs.Pieces.{Spot, Item, sure, leaving, behind, past}
 use Rattle.lower_code.specs.Programs.{Body, all_bodies, body_piece, bodies_from, funcs_from, item_op, first_spot, whole}
 use Rattle.lower_code.specs.Programs.{code_of}
-use Rattle.lower_bounds.proofs.Bodies.{all_each, some_is}
+use Rattle.lower_bounds.proofs.Bodies.{all_each}
 use Rattle.lower_simulation_runs.specs.Programs.{NodeStands}
 use Rattle.lower_sound.specs.Laws.{IsArm, GroupAt, GroupOf, ArmsStand}
 use Rattle.lower_sound.proofs.Armed.{arms_behind, arms_after, Armed, arms_stand, Free, Tells, OpLeads, Lead}
@@ -35,7 +35,7 @@ free_at (op ∷ ops) (suc i) = free_at ops i
 
 arm_there : (ops : List Op) (i l : ℕ) → slice_get ops i ≡ Some (o.Arm l) → free_at ops i ≡ false
 arm_there [] i l e = elim (none-some _ e) [ ]
-arm_there (op ∷ ops) zero l e = ap no_arm (some_is e)
+arm_there (op ∷ ops) zero l e = ap no_arm (same_Some _ _ e)
 arm_there (op ∷ ops) (suc i) l e = arm_there ops i l e
 
 an_arm : (op : Op) → no_arm op ≡ false → (l : ℕ) × (op ≡ o.Arm l)
@@ -73,14 +73,14 @@ arms_in op = 0
 
 module _ (ops : List Op) (stand : ArmsStand ops) where
   no_group : (i m : ℕ) → IsArm ops i → GroupAt ops i m → ⊥
-  no_group i m a g = true≢false (ap no_arm (some_is (sym g.there ∙ a.1)))
+  no_group i m a g = true≢false (ap no_arm (same_Some _ _ (sym g.there ∙ a.1)))
 
   -- an arm of a group that begins further on, here, or before
   not_on : (i : ℕ) (op : Op) → slice_get ops i ≡ Some op → goes_on op ≡ true → IsArm ops (suc i) → ⊥
   not_on i op e on a = by (stand.groups (suc i) a)
     where
       stops : (x : Op) → slice_get ops i ≡ Some x → goes_on x ≡ false → ⊥
-      stops x s h = true≢false (sym on ∙ (ap goes_on (some_is (sym e ∙ s)) ∙ h))
+      stops x s h = true≢false (sym on ∙ (ap goes_on (same_Some _ _ (sym e ∙ s)) ∙ h))
 
       at : (g : GroupOf ops (suc i)) → (g.begin < i) ⊎ ((g.begin ≡ i) ⊎ (i < g.begin)) → ⊥
       at g (inl lt) =
@@ -105,7 +105,7 @@ module _ (ops : List Op) (stand : ArmsStand ops) where
           no_group i m (stand.arms g.begin g.arms i g.group (omega (arith, lt), omega (arith, g.behind.1))) own
       at g (inr (inl e2)) =
           let here : GroupAt ops i g.arms = subst (λ j. GroupAt ops j g.arms) e2 g.group in
-          let same : g.arms ≡ m = ap arms_in (some_is (sym here.there ∙ e)) in
+          let same : g.arms ≡ m = ap arms_in (same_Some _ _ (sym here.there ∙ e)) in
           absurd (omega (arith, same, e2, g.behind.1))
       at g (inr (inr lt)) =
           no_group g.begin g.arms (stand.arms i m g.begin own (omega (arith, lt), omega (arith, g.behind.0))) g.group
@@ -118,18 +118,18 @@ module _ (ops : List Op) (stand : ArmsStand ops) where
 lead_at : (free : Free) (out : ℕ → Bool) (is : List Item) (i : ℕ) (op : Op) → Lead free out is →
     slice_get (map item_op is) i ≡ Some op → OpLeads free op
 lead_at free out [] i op h e = elim (none-some op e) [ ]
-lead_at free out (sure x ∷ is) zero op h e = subst (λ y. OpLeads free y) (some_is e) h.0
-lead_at free out (leaving n ∷ is) zero op h e = subst (λ y. OpLeads free y) (some_is e) tt
+lead_at free out (sure x ∷ is) zero op h e = subst (λ y. OpLeads free y) (same_Some _ _ e) h.0
+lead_at free out (leaving n ∷ is) zero op h e = subst (λ y. OpLeads free y) (same_Some _ _ e) tt
 lead_at free out (x ∷ is) (suc i) op h e = lead_at free out is i op h.1 e
 
 to_free : (free : Free) (op : Op) (l : ℕ) → leads_to op ≡ Some l → OpLeads free op → free l ≡ true
-to_free free (o.Jump m) l e h = subst (λ i. free i ≡ true) (some_is e) h
-to_free free (o.Again m) l e h = subst (λ i. free i ≡ true) (some_is e) h
-to_free free (o.Same m) l e h = subst (λ i. free i ≡ true) (some_is e) h
-to_free free (o.Try m) l e h = subst (λ i. free i ≡ true) (some_is e) h
-to_free free (o.Branch m) l e h = subst (λ i. free i ≡ true) (some_is e) h
-to_free free (o.Defer m) l e h = subst (λ i. free i ≡ true) (some_is e) h
-to_free free (o.Take d v m) l e h = subst (λ i. free i ≡ true) (some_is e) h
+to_free free (o.Jump m) l e h = subst (λ i. free i ≡ true) (same_Some _ _ e) h
+to_free free (o.Again m) l e h = subst (λ i. free i ≡ true) (same_Some _ _ e) h
+to_free free (o.Same m) l e h = subst (λ i. free i ≡ true) (same_Some _ _ e) h
+to_free free (o.Try m) l e h = subst (λ i. free i ≡ true) (same_Some _ _ e) h
+to_free free (o.Branch m) l e h = subst (λ i. free i ≡ true) (same_Some _ _ e) h
+to_free free (o.Defer m) l e h = subst (λ i. free i ≡ true) (same_Some _ _ e) h
+to_free free (o.Take d v m) l e h = subst (λ i. free i ≡ true) (same_Some _ _ e) h
 to_free free op l e h = elim (none-some l e) [ ]
 
 -- ---- the items of a code tell where no arm stands
@@ -177,7 +177,7 @@ module _ (p : Program) (differ : ℕ → ℕ → Bool) (f : Found) (known : Fine
       slice_get (funcs_from p differ bs s) k ≡ Some x → Begun free (begins p differ f known bs s) →
       free x.entry ≡ true
   entry_free free [] s k x e h = elim (none-some x e) [ ]
-  entry_free free (b ∷ bs) s zero x e h = subst (λ (g : Func). free g.entry ≡ true) (some_is e) h.0
+  entry_free free (b ∷ bs) s zero x e h = subst (λ (g : Func). free g.entry ≡ true) (same_Some _ _ e) h.0
   entry_free free (b ∷ bs) s (suc k) x e h = entry_free free bs (past s (body_piece p differ b s)) k x e h.1
 
   module _ (files : ℕ) (several : Several (bodies_from p differ (all_bodies p.items))

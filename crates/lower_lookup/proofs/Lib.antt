@@ -1,4 +1,3 @@
-pub mod SameNames
 mod NoCallees
 mod NoBases
 mod PlainStatements

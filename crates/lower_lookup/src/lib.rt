@@ -5,8 +5,7 @@
 //! brackets of a call or an index; `members`, what is read and written behind a dot; `statements`,
 //! what the parts of a block are; `targets`, what the target of `set` leads to.
 //!
-//! The public lemmas, which crates above cite, are those of `proofs/SameNames` and
-//! `proofs/Targeting`.
+//! The public lemmas, which crates above cite, are those of `proofs/Targeting`.
 #![tactic(auto)]
 
 pub mod actions;

@@ -8,7 +8,7 @@ use verse_tree::programs::Program;
 use verse_tree::tables::Ref;
 
 /// Whether two names are the same.
-#[tactic(auto, using(crate::proofs::SameNames::same_bytes))]
+#[tactic(auto, using(verse_meaning::proofs::Names::same_bytes))]
 pub fn is_same_name(name: &[u8], other: &[u8]) -> bool
     ensures { result ≡ same_name name.now other.now }
 {

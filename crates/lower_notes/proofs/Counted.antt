@@ -1,5 +1,5 @@
 -- One state for each operation: how the combinators keep it.
-use Rattle.std.proofs.Common.{◌≡◌, ℕ, zero, suc, ◌+◌, List, [], ◌∷◌, ◌++◌, map, length, max, Bool, true, false, refl}
+use Rattle.std.proofs.Common.{◌≡◌, ℕ, zero, suc, ◌+◌, List, [], ◌∷◌, map, length, Bool, true, false, refl}
 use Rattle.std.proofs.Common.{arith}
 use Rattle.std.proofs.Common.{length-append}
 use Rattle.std.specs.Prelude.{Option, None, option_map}
@@ -9,9 +9,10 @@ use Rattle.verse_code.specs.declared.operations.Op.{Op}
 use Rattle.verse_code.specs.declared.operations.Op.TheVariants as o
 use Rattle.verse_sorts.specs.Sorts.{Sort}
 use Rattle.lower_code.specs.Pieces as c
-use Rattle.lower_code.specs.Pieces.{Spot, Item, sure, leaving, Maker, past, next, closed, deepest, drops, arms_at}
+use Rattle.lower_code.specs.Pieces.{Spot, Item, sure, Maker, past, next, closed, deepest, drops}
 use Rattle.lower_code.specs.Pieces.{arms_spot, behind, later}
 use Rattle.lower_code.specs.Lowering as l
+use Rattle.lower_code.proofs.Depths.{deepest_more, arms_shallow, drops_shallow, closed_shallow, closed_length, arms_length}
 use Rattle.lower_notes.specs.States.{State, Change, pops, gives, tried, untried, in_arm}
 use Rattle.lower_notes.specs.Stretches as n
 use Rattle.lower_notes.specs.Stretches.{Walk, outs, unreached}
@@ -26,11 +27,6 @@ walk_then f g at x = n.joined_on at (f at x) g
 
 abbrev pub walk_beside : Walk → Walk → Walk
 walk_beside f g at x = n.joined_at at (f at x) x g
-
-deepest_more : (xs ys : List Item) → deepest (xs ++ ys) ≡ max (deepest xs) (deepest ys)
-deepest_more [] ys = omega arith
-deepest_more (sure op ∷ xs) ys = deepest_more xs ys
-deepest_more (leaving n ∷ xs) ys = omega (arith, deepest_more xs ys)
 
 pub both : {f h : Maker} {g k : Walk} → Beside f g → Beside h k → Beside (code_then f h) (walk_then g k)
 both {f = f} {h = h} {g = g} {k = k} x y = record {
@@ -201,22 +197,9 @@ compares = one_of o.Same (n.always (pops 2)) (n.always (pops 2))
 
 -- ---- loops
 
-closed_count : (out : ℕ) (is : List Item) → length (map (closed out) is) ≡ length is
-closed_count out [] = refl
-closed_count out (i ∷ is) = omega (arith, closed_count out is)
-
-closed_flat : (out : ℕ) (is : List Item) → deepest (map (closed out) is) ≡ 0
-closed_flat out [] = refl
-closed_flat out (sure op ∷ is) = closed_flat out is
-closed_flat out (leaving n ∷ is) = closed_flat out is
-
 drops_count : (d : ℕ) (is : List Item) → length (drops d is) ≡ d + length is
 drops_count zero is = omega arith
 drops_count (suc d) is = omega (arith, drops_count d is)
-
-drops_flat : (d : ℕ) → deepest (drops d (sure o.Unit ∷ [])) ≡ 0
-drops_flat zero = refl
-drops_flat (suc d) = drops_flat d
 
 outs_count : (d : ℕ) (left : Option ℕ) (x : Option State) → length (outs d left x) ≡ suc d
 outs_count zero left x = refl
@@ -231,7 +214,7 @@ closes {f = f} {g = g} x = record {
       omega (
         arith,
         length-append (map (closed out) (f s).items) (drops d (sure o.Unit ∷ [])),
-        closed_count out (f s).items,
+        closed_length out (f s).items,
         drops_count d (sure o.Unit ∷ []),
         length-append p.states (outs p.deep p.left z),
         outs_count p.deep p.left z,
@@ -244,8 +227,8 @@ closes {f = f} {g = g} x = record {
       omega (
         arith,
         deepest_more (map (closed out) (f s).items) (drops d (sure o.Unit ∷ [])),
-        closed_flat out (f s).items,
-        drops_flat d,
+        closed_shallow out (f s).items,
+        drops_shallow d,
       );
 }
 
@@ -282,14 +265,6 @@ turns {f = f} {g = g} op domain turn k x = with_locals (suc (suc (suc (suc k))))
 
 -- ---- groups
 
-arms_count : (ls : List ℕ) (is : List Item) → length (arms_at ls is) ≡ length ls + length is
-arms_count [] is = omega arith
-arms_count (k ∷ ls) is = omega (arith, arms_count ls is)
-
-arms_flat : (ls : List ℕ) (is : List Item) → deepest (arms_at ls is) ≡ deepest is
-arms_flat [] is = refl
-arms_flat (k ∷ ls) is = arms_flat ls is
-
 unreached_count : (m : ℕ) (xs : List (Option State)) → length (unreached m xs) ≡ m + length xs
 unreached_count zero xs = omega arith
 unreached_count (suc m) xs = omega (arith, unreached_count m xs)
@@ -305,7 +280,7 @@ groups {arms = arms} {g = g} kind m pl a where_at many x = record {
       omega (
         arith,
         many e,
-        arms_count (where_at e) is,
+        arms_length (where_at e) is,
         unreached_count m (option_map (gives 0 a) z ∷ (g (later m (suc (suc at))) z).states),
         x.count e (later m (suc (suc at))) z,
       );
@@ -313,7 +288,7 @@ groups {arms = arms} {g = g} kind m pl a where_at many x = record {
       let e : Spot = arms_spot m s in
       omega (
         arith,
-        arms_flat (where_at e) (sure (o.Jump (past e (arms e)).at) ∷ (arms e).items),
+        arms_shallow (where_at e) (sure (o.Jump (past e (arms e)).at) ∷ (arms e).items),
         x.deep e (later m (suc (suc at))) z,
       );
 }

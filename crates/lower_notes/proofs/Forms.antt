@@ -51,7 +51,7 @@ module _ (p : Program) (found : Found) (differ : ℕ → ℕ → Bool) where
         (n.walk p found differ b sc a)
     trees (tree i pl x) sc a = gives_value (found.sort i) (shapes x i pl sc a)
 
-    shapes : (x : Shape) (i : ℕ) (pl : Place) (sc : Scope) (a : Around) →
+    pub shapes : (x : Shape) (i : ℕ) (pl : Place) (sc : Scope) (a : Around) →
         Beside (shape_piece p differ x i pl sc a) (n.shape_walk p found differ x i pl sc a)
     -- blocks and statements
     shapes (t.Shape.block cs) i pl sc a = all cs sc a
@@ -153,7 +153,7 @@ module _ (p : Program) (found : Found) (differ : ℕ → ℕ → Bool) where
     shapes x i pl sc a = sticks
 
     -- statements
-    all : (ts : Trees) (sc : Scope) (a : Around) → Beside (statements p differ ts sc a)
+    pub all : (ts : Trees) (sc : Scope) (a : Around) → Beside (statements p differ ts sc a)
         (n.statements p found differ ts sc a)
     all no_trees sc a = just
     all (more_trees b cs) sc a = both (states p found differ (statement_of b) _ sc (trees b sc a)
@@ -161,18 +161,18 @@ module _ (p : Program) (found : Found) (differ : ℕ → ℕ → Bool) where
         (both (more cs (scope_stated (statement_of b) sc) (around_stated p differ (statement_of b) a))
         (if_so (any_defer (more_trees b cs)) (just_leaves (o.Leave a.defers) a.defers)))
 
-    more : (ts : Trees) (sc : Scope) (a : Around) →
+    pub more : (ts : Trees) (sc : Scope) (a : Around) →
         Beside (more_statements p differ ts sc a) (n.more_statements p found differ ts sc a)
     more no_trees sc a = none
     more (more_trees b cs) sc a =
         both just (both (states p found differ (statement_of b) _ sc (trees b sc a) (inners b sc a))
         (more cs (scope_stated (statement_of b) sc) (around_stated p differ (statement_of b) a)))
 
-    inners : (b : Tree) (sc : Scope) (a : Around) → Beside (inner p differ b sc a)
+    pub inners : (b : Tree) (sc : Scope) (a : Around) → Beside (inner p differ b sc a)
         (n.inner p found differ b sc a)
     inners (tree i pl x) sc a = inner_shapes x sc a
 
-    inner_shapes : (x : Shape) (sc : Scope) (a : Around) → Beside (inner_shape p differ x sc a)
+    pub inner_shapes : (x : Shape) (sc : Scope) (a : Around) → Beside (inner_shape p differ x sc a)
         (n.inner_shape p found differ x sc a)
     inner_shapes (t.Shape.definition x b) sc a = trees b sc a
     inner_shapes (t.Shape.typed x w b) sc a = trees b sc a
@@ -185,49 +185,49 @@ module _ (p : Program) (found : Found) (differ : ℕ → ℕ → Bool) where
     inner_shapes x sc a = sticks
 
     -- operands
-    operands : (ts : Trees) (sc : Scope) (a : Around) → Beside (args p differ ts sc a)
+    pub operands : (ts : Trees) (sc : Scope) (a : Around) → Beside (args p differ ts sc a)
         (n.args p found differ ts sc a)
     operands no_trees sc a = none
     operands (more_trees b ts) sc a = both (trees b sc a) (operands ts sc (up a))
 
-    indices : (q : Sort) (ts : Trees) (sc : Scope) (a : Around) → Beside (args p differ ts sc a)
+    pub indices : (q : Sort) (ts : Trees) (sc : Scope) (a : Around) → Beside (args p differ ts sc a)
         (n.indices p found differ q ts sc a)
     indices q no_trees sc a = none
     indices q (more_trees b ts) sc a = both (wider _ (trees b sc a)) (indices q ts sc (up a))
 
-    holes : (hs : Holes) (sc : Scope) (a : Around) → Beside (holed p differ hs sc a)
+    pub holes : (hs : Holes) (sc : Scope) (a : Around) → Beside (holed p differ hs sc a)
         (n.holed p found differ hs sc a)
     holes no_holes sc a = none
     holes (more_holes b bs hs) sc a =
         both (trees b sc a) (both (texts bs) (holes hs sc (raised (suc (one_if (is_text bs) 0)) a)))
 
-    entries : (k : Sort) (ps : t.Pairs) (sc : Scope) (a : Around) →
+    pub entries : (k : Sort) (ps : t.Pairs) (sc : Scope) (a : Around) →
         Beside (paired_args p differ ps sc a) (n.paired_args p found differ k ps sc a)
     entries k t.Pairs.no_pairs sc a = none
     entries k (t.Pairs.more_pairs b c ps) sc a =
         both (wider k (trees b sc a)) (both (trees c sc (up a)) (entries k ps sc (up (up a))))
 
-    givens : (gs : Givens) (sc : Scope) (a : Around) → Beside (given_args p differ gs sc a)
+    pub givens : (gs : Givens) (sc : Scope) (a : Around) → Beside (given_args p differ gs sc a)
         (n.given_args p found differ gs sc a)
     givens no_givens sc a = none
     givens (more_givens x b gs) sc a = both (trees b sc a) (both away (givens gs (hidden ∷ sc) a))
 
-    quotients : (ts : Trees) (sc : Scope) (a : Around) → Beside (quotient p differ ts sc a)
+    pub quotients : (ts : Trees) (sc : Scope) (a : Around) → Beside (quotient p differ ts sc a)
         (n.quotient p found differ ts sc a)
     quotients no_trees sc a = sticks
     quotients (more_trees (tree i pl x) ts) sc a = quotient_shapes x sc a
 
-    quotient_shapes : (x : Shape) (sc : Scope) (a : Around) →
+    pub quotient_shapes : (x : Shape) (sc : Scope) (a : Around) →
         Beside (quotient_shape p differ x sc a) (n.quotient_shape p found differ x sc a)
     quotient_shapes (t.Shape.chained x b c) sc a = both (trees b sc a) (trees c sc (up a))
     quotient_shapes x sc a = sticks
 
     -- what `set` writes to
-    targets : (b : Tree) (base : Base) (sc : Scope) (a : Around) →
+    pub targets : (b : Tree) (base : Base) (sc : Scope) (a : Around) →
         Beside (target_piece p differ b base sc a) (n.target_walk p found differ b base sc a)
     targets (tree i pl x) base sc a = target_shapes x base sc a
 
-    target_shapes : (x : Shape) (base : Base) (sc : Scope) (a : Around) →
+    pub target_shapes : (x : Shape) (base : Base) (sc : Scope) (a : Around) →
         Beside (target_shape p differ x base sc a) (n.target_shape p found differ x base sc a)
     target_shapes (t.Shape.name x) base sc a = bases p found differ base sc
     target_shapes (t.Shape.member b x) base sc a = trees b sc a
@@ -236,7 +236,7 @@ module _ (p : Program) (found : Found) (differ : ℕ → ℕ → Bool) where
     target_shapes x base sc a = sticks
 
     -- the clauses of a `for`
-    clauses_of : (ts : Trees) (sc : Scope) (a : Around) {body : Scope → Maker} {inside : Scope → Walk} →
+    pub clauses_of : (ts : Trees) (sc : Scope) (a : Around) {body : Scope → Maker} {inside : Scope → Walk} →
         ((z : Scope) → Beside (body z) (inside z)) → Beside (levels p differ ts sc a body)
         (n.levels p found differ ts sc a inside)
     clauses_of no_trees sc a h = h sc
@@ -245,28 +245,28 @@ module _ (p : Program) (found : Found) (differ : ℕ → ℕ → Bool) where
         (λ z. clauses_of ts z a h)
 
     -- the arms of a `case`
-    arms_of : (ts : Trees) (k : ℕ) (sc : Scope) (a : Around) → Beside (arms p differ ts k sc a)
+    pub arms_of : (ts : Trees) (k : ℕ) (sc : Scope) (a : Around) → Beside (arms p differ ts k sc a)
         (n.arms p found differ ts k sc a)
     arms_of no_trees k sc a = sticks
     arms_of (more_trees (tree i pl x) ts) k sc a = arm_shapes x ts k sc a (arms_of ts k sc a)
 
-    arm_shapes : (x : Shape) (ts : Trees) (k : ℕ) (sc : Scope) (a : Around) {rest : Maker} {others : Walk} →
+    pub arm_shapes : (x : Shape) (ts : Trees) (k : ℕ) (sc : Scope) (a : Around) {rest : Maker} {others : Walk} →
         Beside rest others →
         Beside (arm_shape p differ x ts k sc a rest) (n.arm_shape p found differ x ts k sc a others)
     arm_shapes (t.Shape.arm b c) ts k sc a h = arm_of p found differ b k (none_left ts) (trees c sc a) h
     arm_shapes x ts k sc a h = sticks
 
     -- the arms of a group
-    tasks : (ts : Trees) (sc : Scope) → Beside (task_arms p differ ts sc) (n.task_arms p found differ ts sc)
+    pub tasks : (ts : Trees) (sc : Scope) → Beside (task_arms p differ ts sc) (n.task_arms p found differ ts sc)
     tasks no_trees sc = none
     tasks (more_trees b ts) sc = each (counted.arms o.ArmEnd _ (trees b sc fresh)) (tasks ts sc)
 
     -- the call that a `spawn` starts
-    spawns : (b : Tree) (sc : Scope) (a : Around) → Beside (spawned p differ b sc a)
+    pub spawns : (b : Tree) (sc : Scope) (a : Around) → Beside (spawned p differ b sc a)
         (n.spawned p found differ b sc a)
     spawns (tree i pl x) sc a = spawned_shapes x pl sc a
 
-    spawned_shapes : (x : Shape) (pl : Place) (sc : Scope) (a : Around) →
+    pub spawned_shapes : (x : Shape) (pl : Place) (sc : Scope) (a : Around) →
         Beside (spawned_shape p differ x pl sc a) (n.spawned_shape p found differ x pl sc a)
     spawned_shapes (t.Shape.call b ts) pl sc a =
         callees (spawned_callee (callee_of p b (form.picking None) pl))

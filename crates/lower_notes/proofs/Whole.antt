@@ -3,6 +3,7 @@ use Rattle.std.proofs.Common.{◌≡◌, ℕ, suc, List, [], ◌∷◌, map, len
 use Rattle.std.proofs.Common.{length-append}
 use Rattle.std.proofs.Common.{inl, inr}
 use Rattle.std.specs.Prelude.{Option, option_map}
+use Rattle.std.proofs.lemmas.List.{length-map}
 use Rattle.verse_tree.specs.Tree.{Tree, tree}
 use Rattle.verse_tree.specs.declared.tables.ClassInfo.{ClassInfo}
 use Rattle.verse_code.specs.declared.codes.Code.{Code}
@@ -25,10 +26,6 @@ use Rattle.lower_notes.specs.Programs as n
 use Rattle.lower_notes.specs.Laws.{Beside, SameCounts, Exits, OneForEach}
 use Rattle.lower_notes.proofs.Counted.{both, none, just_ends}
 use Rattle.lower_notes.proofs.Forms.{trees}
-
-mapped : {A B : Type 0} (f : A → B) (xs : List A) → length (map f xs) ≡ length xs
-mapped f [] = refl
-mapped f (x ∷ xs) = omega (arith, mapped f xs)
 
 classes_many : (found : Found) (k : ℕ) (cs : List ClassInfo) → length (n.class_notes found k cs) ≡ length cs
 classes_many found k [] = refl
@@ -67,7 +64,7 @@ module _ (p : Program) (found : Found) (differ : ℕ → ℕ → Bool) where
       let code = code_of p differ files in
       let ds = default_bodies (defaults_in p.items) in
       record {
-        classes = omega (arith, classes_many found 0 p.names.classes, mapped class_of p.names.classes);
+        classes = omega (arith, classes_many found 0 p.names.classes, length-map p.names.classes class_of);
         functions = omega (
           arith,
           functions_many (all_bodies p.items) first_spot,
@@ -75,12 +72,12 @@ module _ (p : Program) (found : Found) (differ : ℕ → ℕ → Bool) where
           length-append (n.declared found 0 (bodies_in p.items))
               (map (n.default_note p found differ code) ds),
           declared_many found 0 (bodies_in p.items),
-          mapped (n.default_note p found differ code) ds,
+          length-map ds (n.default_note p found differ code),
         );
         spots = omega (
           arith,
-          mapped item_op (c.whole p differ).items,
-          mapped (option_map spot_of) (n.whole p found differ code).states,
+          length-map (c.whole p differ).items item_op,
+          length-map (n.whole p found differ code).states (option_map spot_of),
           whole code,
         );
       }

@@ -3,7 +3,8 @@
 //! To be read in this order: `parts`, those of forms that have several; `lowering`, a part and the
 //! operands of a form.
 //!
-//! The public lemmas, which crates above cite, are those of `proofs/Lists` and `proofs/Operands`.
+//! The public lemmas, which crates above cite, are those of `proofs/Lists`, `proofs/Operands` and
+//! `proofs/Facts`.
 #![tactic(auto)]
 
 pub mod lowering;

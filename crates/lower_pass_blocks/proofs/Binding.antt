@@ -10,14 +10,14 @@ use Rattle.verse_code.specs.declared.codes.Code.{Code}
 use Rattle.verse_code.specs.declared.operations.Op.TheVariants as o
 use Rattle.verse_names_declarations.specs.Names.{Table}
 use Rattle.verse_sorts.specs.Sorts as s
-use Rattle.verse_sorts.specs.Sorts.{Sort, Fits}
+use Rattle.verse_sorts.specs.Sorts.{Sort, IsKnown, Fits}
 use Rattle.verse_sorts.specs.Typing.{at}
 use Rattle.verse_sorts.proofs.Fitting.{fits_itself}
 use Rattle.verse_sound_rules.specs.Found as rules
 use Rattle.verse_sound_rules.specs.Found.{Allowed, New}
 use Rattle.verse_meaning.specs.Residuals.{a_constant, a_variable}
 use Rattle.verse_verify_kept.specs.Notes.{Notes, parent_of}
-use Rattle.verse_verify_kept.specs.Rules.{IsRead, slot_var, Asked, Quiet}
+use Rattle.verse_verify_kept.specs.Rules.{slot_var, Asked, Quiet}
 use Rattle.lower_code.specs.Pieces as c
 use Rattle.lower_code.specs.Pieces.{Maker}
 use Rattle.lower_code.specs.declared.arounds.Around.{Around}
@@ -142,7 +142,7 @@ module _ (found : rules.Found) (code : Code) (notes : Notes) (w : Way) (ts : Lis
       with_free f g z e = (f z e, g z e)
 
       -- it stays on the stack
-      pub stays_goes : {u : Option State} → IsRead r → If u (IsBound r) →
+      pub stays_goes : {u : Option State} → IsKnown r → If u (IsBound r) →
           Going code notes w ts u (c.one (o.Get l)) (n.one (gets l)) itself (IsAbove r r)
       stays_goes {u = None} read above = just_goes code notes (c.one (o.Get l)) (λ s. o.Get l) (λ s. refl) (λ z e. absurd (none-some z e))
           (λ z e. absurd (none-some z e)) (λ z e. absurd (none-some z e))
@@ -177,7 +177,7 @@ module _ (found : rules.Found) (code : Code) (notes : Notes) (w : Way) (ts : Lis
 
       -- ---- definitions
 
-      pub constant_goes : {u : Option State} (n : Bytes) (qi : Sort) → IsRead r → Fit qi r → If u (IsOver code notes (qi ∷ []) x) →
+      pub constant_goes : {u : Option State} (n : Bytes) (qi : Sort) → IsKnown r → Fit qi r → If u (IsOver code notes (qi ∷ []) x) →
           Going code notes w ts u (lower.bind (a_constant n) l) (walks.bind (a_constant n) l r) itself (IsAbove r r)
       constant_goes n qi read f above = then_goes code notes counted.away (put_goes qi r f above) (λ z h. stays_goes read h)
 
@@ -191,5 +191,5 @@ module _ (found : rules.Found) (code : Code) (notes : Notes) (w : Way) (ts : Lis
           (λ z h. then_goes code notes keeps
           (subst (λ k. Going code notes w ts z (c.kept l) (walks.kept l k) itself (IsAbove r r)) e
           (then_goes code notes counted.away (put_goes (s.var q) r (subst (λ k. Fit (s.var q) k) (sym e)
-          (fits_itself (parent_of notes) (s.var q))) h) (λ v k. stays_goes (subst IsRead (sym e) tt) k)))
+          (fits_itself (parent_of notes) (s.var q))) h) (λ v k. stays_goes (subst IsKnown (sym e) tt) k)))
           (λ v k. loads_goes q e k))

@@ -8,13 +8,12 @@ use Rattle.verse_tree.specs.declared.tables.Ref.TheVariants as ref
 use Rattle.verse_code.specs.declared.codes.Code.{Code}
 use Rattle.verse_names_declarations.specs.Names.{Table}
 use Rattle.verse_sorts.specs.Sorts as s
-use Rattle.verse_sorts.specs.Sorts.{Sort, Fits}
+use Rattle.verse_sorts.specs.Sorts.{Sort, IsKnown, Fits}
 use Rattle.verse_sorts.specs.Typing.{at}
 use Rattle.verse_sound_rules.specs.Found as rules
 use Rattle.verse_sound_rules.specs.Found.{Allowed, New}
 use Rattle.verse_meaning.specs.Residuals.{a_constant, a_variable}
 use Rattle.verse_verify_kept.specs.Notes.{Notes, parent_of}
-use Rattle.verse_verify_kept.specs.Rules.{IsRead}
 use Rattle.lower_code.specs.Pieces.{Maker}
 use Rattle.lower_code.specs.declared.arounds.Around.{Around}
 use Rattle.lower_code.specs.Scopes.{Scope, Slot, constant_at, variable_at}
@@ -95,7 +94,7 @@ module _ (found : rules.Found) (code : Code) (notes : Notes) (w : Way) (ts : Lis
     module _ {f : Maker} {g : Walk} (n : Bytes) (m : ℕ) (qi : Sort) (new : New n xs) (beside : Beside f g)
         (fit : Fits (parent_of notes) qi (found.sort m)) (inner : Going code notes w ts x f g itself (IsValue code notes qi x)) where
       -- a constant whose node has a number
-      pub defines_constant : found.is_var m ≡ false → IsRead (found.sort m) →
+      pub defines_constant : found.is_var m ≡ false → IsKnown (found.sort m) →
           Going code notes w ts x (code_then f (lower.bind (a_constant n) l)) (walk_then g (walks.bind (a_constant n) l (found.sort m)))
           itself (Next 0 (found.sort m) (xs ++ (n, ref.Local m) ∷ []) (constant_at n ∷ sc) a x)
       defines_constant v read =

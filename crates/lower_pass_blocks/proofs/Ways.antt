@@ -8,7 +8,7 @@ use Rattle.std.proofs.lemmas.Bool.{ltb-false}
 use Rattle.verse_code.specs.declared.codes.Code.{Code}
 use Rattle.verse_code.specs.declared.operations.Op.TheVariants as o
 use Rattle.verse_names_declarations.specs.Names.{Table}
-use Rattle.verse_sorts.specs.Sorts.{Sort, Fits}
+use Rattle.verse_sorts.specs.Sorts.{Sort, IsKnown, Fits}
 use Rattle.verse_sound_rules.specs.Found as rules
 use Rattle.verse_sound_rules.specs.Found.{Allowed}
 use Rattle.verse_verify_kept.specs.Notes.{Notes, Point, parent_of}
@@ -49,8 +49,8 @@ module _ (found : rules.Found) (code : Code) (notes : Notes) (w : Way) (ts : Lis
   Here b y = Inside code notes found w ts al xs sc b y
 
   module _ (here : If x (Here a)) where
-    above_here : {u : Option State} (q : Sort) → If u (IsOver code notes (q ∷ []) x) → If u (Here (arounds.up a))
-    above_here q i z e = let k = i z e in subst (Here (arounds.up a)) (sym k.1.1) (inside_up code notes q (here k.0 k.1.0))
+    above_here : {u : Option State} (q : Sort) → IsKnown q → If u (IsOver code notes (q ∷ []) x) → If u (Here (arounds.up a))
+    above_here q known i z e = let k = i z e in subst (Here (arounds.up a)) (sym k.1.1) (inside_up code notes q known (here k.0 k.1.0))
 
     -- ---- `return`
 
@@ -78,7 +78,7 @@ module _ (found : rules.Found) (code : Code) (notes : Notes) (w : Way) (ts : Lis
     none_open st [] e = refl
     none_open st (m ∷ ms) e = absurd (cc)
 
-    module _ (q res : Sort) (result : al.result ≡ Some res) (fit : Fits (parent_of notes) q res) where
+    module _ (q res : Sort) (result : al.result ≡ Some res) (fit : Fits (parent_of notes) q res) (known : IsKnown q) where
       return_asked : (z : State) → Free q z → {i : ℕ} → Asked code notes i (pt z) o.Return
       return_asked z f = let g = (here f.state f.is).returns res result in
           let none = f.tries ∙ g.tries in
@@ -102,6 +102,11 @@ module _ (found : rules.Found) (code : Code) (notes : Notes) (w : Way) (ts : Lis
           even = even_is z.stack z.tries (q ∷ y.stack) y.tries k t (even_over y h.even (q ∷ []));
           names = names_is z.tries y.tries z.outer y.outer t u ∙ h.names;
           ready = ready_none z.defers z.locals (pt z) d;
+          stood = let m = h.returns res result in record {
+            tries = h.stood.tries;
+            lasts = λ r e. absurd (none-some r (sym (g ∙ m.arm) ∙ e));
+            within = λ r e. absurd (none-some r (sym (b ∙ m.block) ∙ e));
+          };
         };
       }
         where
@@ -132,8 +137,8 @@ module _ (found : rules.Found) (code : Code) (notes : Notes) (w : Way) (ts : Lis
       leave_or_not : {u : Option State} → If u (IsOver code notes (q ∷ []) x) → (b : Bool) → nat_lt a.base a.defers ≡ b →
           Going code notes w ts u (c.when b (c.one (o.Leave a.base))) (n.when b (n.leave a.base)) itself (Free q)
       leave_or_not above true e = when_true (just_goes code notes (c.one (o.Leave a.base)) (λ s. o.Leave a.base) (λ s. refl)
-          (λ z i. steady_of code notes (above_here q above z i))
-          (λ z i s room m. leave_asked code notes (above_here q above z i) a.base (same a.base)
+          (λ z i. steady_of code notes (above_here q known above z i))
+          (λ z i s room m. leave_asked code notes (above_here q known above z i) a.base (same a.base)
           (most (here (above z i).0 (above z i).1.0).order) m)
           (λ z i s room. let j = above z i in left j.0 z j.1.0 j.1.1))
         where

@@ -18,7 +18,7 @@ use Rattle.lower_code.specs.Scopes.{Scope}
 use Rattle.lower_notes.specs.States.{State, spot_of}
 use Rattle.lower_notes.specs.States as states
 use Rattle.lower_pass_states.proofs.Points.{pt, Even, names_of, tries_tried, even_tried}
-use Rattle.lower_pass_states.proofs.Meeting.{entries, noted_point}
+use Rattle.lower_pass_states.proofs.Meeting.{entries, noted_point, Opened}
 use Rattle.lower_pass_stretches.proofs.Going.{Way}
 use Rattle.lower_pass_stretches.proofs.Combined.{Led}
 use Rattle.lower_pass_stretches.proofs.Inside.{Inside, Blocks, blocks_before, ready_moved, ready_of}
@@ -31,6 +31,16 @@ many_entries (d ∷ ds) = ap suc (many_entries ds)
 pub noted_is : (notes : Notes) (code : Code) (z : State) (i : ℕ) (p : Point) → Even z →
     slice_get notes.points i ≡ Some (point_of (option_map spot_of (Some z))) → point_at notes i ≡ Some p → pt z ≡ p
 noted_is notes code z i p e h k = same_in (noted_point code notes z i e h) k
+
+-- a Try and its label are reached
+pub opened_try : (code : Code) (notes : Notes) (i label : ℕ) {x y : State} → Even x → Even y →
+    Led code notes o.Try (Some x) (Some y) i label → Opened code notes i
+opened_try code notes i label {x} {y} e f led = record {
+  label = label;
+  is_try = led.operation;
+  here = (pt x, noted_point code notes x i e led.here);
+  there = (pt y, noted_point code notes y label f led.there);
+}
 
 module _ (code : Code) (notes : Notes) {found : rules.Found} {w : Way} {ts : List ℕ} {al : Allowed} {xs : Table} {sc : Scope}
     {a : Around} {y : State} where
@@ -47,6 +57,11 @@ module _ (code : Code) (notes : Notes) {found : rules.Found} {w : Way} {ts : Lis
   inside_try i label led h = record {
     even = even_tried i y h.even;
     names = ap (λ zs. i ∷ zs) h.names;
+    stood = record {
+      tries = (opened_try code notes i label h.even h.even led, h.stood.tries);
+      lasts = h.stood.lasts;
+      within = h.stood.within;
+    };
     blocks = subst (λ k. Blocks code notes (pt (states.tried i y)) (i ∷ ts) k y.defers y.locals) (sym (none a.defers))
         (blocks_before (ready_moved code notes (i ∷ []) (record { func = refl; arm = refl; under = refl })
         (names_of (states.tried i y) ∙ ap (λ zs. i ∷ zs) (sym (names_of y)))

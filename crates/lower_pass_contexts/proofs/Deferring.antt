@@ -1,7 +1,7 @@
 -- A block that is deferred.
 use Rattle.std.proofs.Common.{◌≡◌, ℕ, suc, ◌+◌, ◌-◌, ◌≤◌, length, List, [], Option, Some, refl, sym, subst, ap, arith}
 use Rattle.std.specs.Prelude.{option_map, slice_get}
-use Rattle.std.proofs.lemmas.Option.{none-some}
+use Rattle.std.proofs.lemmas.Option.{none-some, same_Some}
 use Rattle.verse_code.specs.declared.codes.Code.{Code}
 use Rattle.verse_code.specs.declared.operations.Op.TheVariants as o
 use Rattle.verse_names_declarations.specs.Names.{Table}
@@ -17,7 +17,7 @@ use Rattle.lower_code.specs.Arounds.{enclosed, deferring}
 use Rattle.lower_code.specs.Scopes.{Scope}
 use Rattle.lower_notes.specs.States.{State, spot_of, in_block, deferred}
 use Rattle.lower_pass_states.proofs.Points.{pt, names_of}
-use Rattle.lower_pass_states.proofs.Meeting.{Meets, no_value, leads_to, entries, noted_point}
+use Rattle.lower_pass_states.proofs.Meeting.{Meets, no_value, leads_to, entries, noted_point, InBlock}
 use Rattle.lower_pass_stretches.proofs.Going.{Way}
 use Rattle.lower_pass_stretches.proofs.Inside.{Inside, Since, Blocks, blocks_before, blocks_so, blocks_moved, entry_moved, keeps_moved}
 use Rattle.lower_pass_contexts.proofs.Contexts.{many_entries}
@@ -43,10 +43,27 @@ module _ (code : Code) (notes : Notes) where
   module _ {found : rules.Found} {w : Way} {ts : List ℕ} {al : Allowed} {xs : Table} {sc : Scope} {a : Around} {y : State}
       (h : Inside code notes found w ts al xs sc a y) where
     -- what is known in the block
-    pub inside_block : (i : ℕ) → Inside code notes found w ts (rules.deferred al) xs sc (enclosed a) (in_block i y)
-    inside_block i = record {
+    pub inside_block : (i : ℕ) → BlockNoted (Some y) i → Inside code notes found w ts (rules.deferred al) xs sc (enclosed a) (in_block i y)
+    inside_block i b = record {
       even = refl;
       names = h.names;
+      stood = record {
+        tries = h.stood.tries;
+        lasts = h.stood.lasts;
+        within = λ e f. subst (λ e. InBlock code notes e y.func y.arm (in_block i y).outer (in_block i y).under) (same_Some (suc i) e f)
+            (record {
+              point = pt (in_block i y);
+              live = noted_point code notes (in_block i y) (suc i) refl b;
+              same_func = refl;
+              same_arm = refl;
+              block = refl;
+              same_outer = refl;
+              same_under = refl;
+              stack = refl;
+              tries = refl;
+              defers = refl;
+            });
+      };
       blocks = subst (λ k. Blocks code notes (pt (in_block i y)) ts k [] y.locals) (sym (none a.defers)) (blocks_before ready_no);
       count = more a.defers (y.under + length y.defers) h.count;
       order = (same a.defers, same a.defers);
@@ -93,6 +110,7 @@ module _ (code : Code) (notes : Notes) where
     inside_deferring i b = record {
       even = h.even;
       names = h.names;
+      stood = h.stood;
       blocks = subst (λ k. Blocks code notes (pt (deferred i y)) ts k (deferred i y).defers y.locals) (one_more a.defers a.base h.order)
           (blocks_so (pt (in_block i y)) (entry_moved code notes (record { func = refl; arm = refl; under = refl }) (entry_of y i b))
           h.names refl (all_itself (parent_of notes) y.locals)

@@ -100,6 +100,7 @@ module _ (code : Code) (notes : Notes) where
     steady_left m base l = subst (λ k. Steady code notes ts (left_behind k y)) many (record {
       even = h.even;
       names = h.names;
+      stood = h.stood;
       ready = ready_of code notes (sym h.names ∙ sym (names_of y))
           (blocks_moved code notes (record { func = refl; arm = refl; under = refl }) refl (blocks_left (a.defers - m) few h.blocks));
     })

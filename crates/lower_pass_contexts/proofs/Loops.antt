@@ -17,7 +17,7 @@ use Rattle.lower_notes.specs.Stretches.{Stretch, Walk, with_value, above, anys, 
 use Rattle.lower_notes.specs.Laws.{Beside}
 use Rattle.verse_verify_faults.specs.Spots.{point_of}
 use Rattle.lower_pass_states.proofs.Points.{Even, over, gives_is, even_over, names_of}
-use Rattle.lower_pass_states.proofs.Meeting.{Meets, leads_to, MeetsAt, Noted, SoundAt, AllSound, leads_itself}
+use Rattle.lower_pass_states.proofs.Meeting.{Stood, Meets, leads_to, MeetsAt, Noted, SoundAt, AllSound, leads_itself}
 use Rattle.lower_pass_stretches.proofs.Going.{Way, itself, Lies, Within, within_less, Steady, sound_of, Going, everywhere, noted_first}
 use Rattle.lower_pass_stretches.proofs.Going.{noted_rest, behind_same, all_more}
 use Rattle.lower_pass_states.proofs.Steps.{drop_asked, unit_asked}
@@ -45,10 +45,14 @@ module _ (code : Code) (notes : Notes) (ts : List ℕ) where
   even_above zero y e = e
   even_above (suc m) y e = even_over (above m y) (even_above m y e) (s.any ∷ [])
 
+  stood_above : (m : ℕ) (y : State) → Stood code notes ts y → Stood code notes ts (above m y)
+  stood_above m y h = h
+
   pub steady_above : (m : ℕ) (y : State) → Steady code notes ts y → Steady code notes ts (above m y)
   steady_above m y h = record {
     even = even_above m y h.even;
     names = h.names;
+    stood = stood_above m y h.stood;
     ready = ready_moved code notes [] (record { func = refl; arm = refl; under = refl })
         (names_of (above m y) ∙ sym (names_of y)) h.ready;
   }

@@ -24,7 +24,7 @@ module _ (up : ℕ → Option ℕ) where
   -- of what nothing is known, anything may be
   anything : {b : Sort} (r : Sort) → Fits up s.none b → Fits up r b
   anything r to_none = to_none
-  anything r to_any = to_any
+  anything r (to_any k) = elim k [ ]
 
   pub with_more : (l : ℕ) (r : Sort) {ls ms : List Sort} → AllFit up ls ms → at ls l ≡ Some s.none → AllFit up (with_local l r ls) ms
   with_more l r fit_no e = fit_no
@@ -55,6 +55,7 @@ module _ (code : Code) (notes : Notes) where
         record {
           even = h.even;
           names = h.names;
+          stood = h.stood;
           blocks = blocks_moved code notes (record { func = refl; arm = refl; under = refl }) refl
               (blocks_with l r none h.blocks);
           count = h.count;

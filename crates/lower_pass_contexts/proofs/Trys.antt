@@ -10,7 +10,8 @@ use Rattle.verse_verify_kept.specs.Notes.{Notes, Point, parent_of}
 use Rattle.verse_verify_kept.specs.Rules as r
 use Rattle.verse_verify_kept.specs.Rules.{Asked, asked, no_local, Leads, TriesFit, MayFail}
 use Rattle.verse_verify_faults.specs.Spots.{above, opens, point_of}
-use Rattle.verse_verify_faults.proofs.Cutting.{take_all, drop_all}
+use Rattle.std.proofs.Math.Seq.{take-append_seam}
+use Rattle.verse_verify_faults.proofs.Cutting.{drop_all}
 use Rattle.lower_notes.specs.States.{State, spot_of, tried, untried}
 use Rattle.lower_pass_states.proofs.Points.{pt, Even, drop_none, stack_over, tries_over, stack_tried, tries_tried}
 use Rattle.lower_pass_states.proofs.Meeting.{Meets, no_value, leads_to, entries}
@@ -47,7 +48,7 @@ module _ (code : Code) (notes : Notes) where
   above_is : (i : ℕ) (y z : State) (qs : List Sort) → Within i y z qs → (pt z).stack ≡ qs
   above_is i y z qs h = subst (λ ms. above z.stack ms ≡ qs) (sym h.tries)
       (subst (λ st. take (length st - length y.stack) st ≡ qs) (sym h.stack)
-      (subst (λ k. take k (qs ++ y.stack) ≡ qs) (sym (room_is qs y.stack)) (take_all qs y.stack)))
+      (subst (λ k. take k (qs ++ y.stack) ≡ qs) (sym (room_is qs y.stack)) (take-append_seam qs y.stack)))
 
   beneath_is : (qs ys : List Sort) → drop (length (qs ++ ys) - length ys) (qs ++ ys) ≡ ys
   beneath_is qs ys = subst (λ k. drop k (qs ++ ys) ≡ ys) (sym (room_is qs ys)) (drop_all qs ys)

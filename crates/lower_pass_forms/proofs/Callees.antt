@@ -111,8 +111,8 @@ module _ (p : Program) (found : rules.Found) (differ : ℕ → ℕ → Bool) (co
         fixed_so absent h = elim h [ ]
 
     -- above an object
-    up_if : {u : Option State} (q : Sort) → If u (IsOver code notes (q ∷ []) x) → If u (Here (up a))
-    up_if q i z e = let k = i z e in subst (Here (up a)) (sym k.1.1) (inside_up code notes q (here k.0 k.1.0))
+    up_if : {u : Option State} (d : ℕ) → If u (IsOver code notes (s.obj d ∷ []) x) → If u (Here (up a))
+    up_if d i z e = let k = i z e in subst (Here (up a)) (sym k.1.1) (inside_up code notes (s.obj d) tt (here k.0 k.1.0))
 
     abbrev Whole : Form → ℕ → Sort → Maker → Walk → Type 0
     Whole f m q g h = Going code notes w ts x
@@ -183,7 +183,7 @@ module _ (p : Program) (found : rules.Found) (differ : ℕ → ℕ → Bool) (co
           let this = gives_told p F al xs e in
           let d = this.class in
           then_goes code notes (starts (form.calling_own k) sc) (own_goes d this.is) (λ u i.
-          then_goes code notes beside (run u (s.obj d ∷ []) (up_if (s.obj d) i) i) (λ v j.
+          then_goes code notes beside (run u (s.obj d ∷ []) (up_if d i) i) (λ v j.
           so_if code notes (turned has (s.obj d ∷ [])) steady j (is_fixed (this_found sc)) (own_so d this.is)
           (last_goes code notes (c.one (o.Method k m)) (λ s. o.Method k m) (λ s. refl) (turned has (s.obj d ∷ [])) steady j q
           (λ y r s t. let z = here y r in
@@ -195,7 +195,7 @@ module _ (p : Program) (found : rules.Found) (differ : ℕ → ℕ → Bool) (co
           let this = gives_told p F al xs e in
           let d = this.class in
           then_goes code notes (starts (form.spawning_own k) sc) (own_goes d this.is) (λ u i.
-          then_goes code notes beside (run u (s.obj d ∷ []) (up_if (s.obj d) i) i) (λ v j.
+          then_goes code notes beside (run u (s.obj d ∷ []) (up_if d i) i) (λ v j.
           so_if code notes (turned has (s.obj d ∷ [])) steady j (is_fixed (this_found sc)) (own_so d this.is)
           (last_goes code notes (c.one (o.SpawnMethod k m)) (λ s. o.SpawnMethod k m) (λ s. refl) (turned has (s.obj d ∷ [])) steady j q
           (λ y r s t. let z = here y r in

@@ -31,6 +31,7 @@ module _ (code : Code) (notes : Notes) where
   steady_over {y = y} qs h = record {
     even = even_over y h.even qs;
     names = h.names;
+    stood = h.stood;
     ready = ready_moved code notes [] (record { func = refl; arm = refl; under = refl })
         (names_of (over qs y) ∙ sym (names_of y)) h.ready;
   }

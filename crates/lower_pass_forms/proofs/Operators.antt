@@ -10,7 +10,7 @@ use Rattle.verse_code.specs.declared.codes.Code.{Code}
 use Rattle.verse_code.specs.declared.operations.Op.TheVariants as o
 use Rattle.verse_names_declarations.specs.Names.{Table}
 use Rattle.verse_sorts.specs.Sorts as s
-use Rattle.verse_sorts.specs.Sorts.{Sort, Fits}
+use Rattle.verse_sorts.specs.Sorts.{Sort, IsKnown, Fits}
 use Rattle.verse_sorts.specs.Typing.{at}
 use Rattle.verse_sorts.proofs.Fitting.{fits_itself}
 use Rattle.verse_meaning.specs.Programs.{Program}
@@ -20,7 +20,7 @@ use Rattle.verse_sound_rules.specs.Found.{Allowed}
 use Rattle.verse_sound_rules.specs.Forms.{Gives, NameIs, is_local, is_key_name, is_field}
 use Rattle.verse_sound_rules.specs.Programs.{FineFound}
 use Rattle.verse_verify_kept.specs.Notes.{Notes, parent_of}
-use Rattle.verse_verify_kept.specs.Rules.{IsRead, slot_var}
+use Rattle.verse_verify_kept.specs.Rules.{slot_var}
 use Rattle.lower_code.specs.Pieces as c
 use Rattle.lower_code.specs.Pieces.{Maker}
 use Rattle.lower_code.specs.declared.arounds.Around.{Around}
@@ -70,8 +70,8 @@ module _ (p : Program) (found : rules.Found) (differ : ℕ → ℕ → Bool) (co
     steady : If x (Steady code notes ts)
     steady y e = steady_of code notes (here y e)
 
-    pub value_up : {z : Option State} (q : Sort) → If z (IsValue code notes q x) → If z (Here (up a))
-    value_up q i z e = let k = i z e in subst (Here (up a)) (sym k.1.1) (inside_up code notes q (here k.0 k.1.0))
+    pub value_up : {z : Option State} (q : Sort) → IsKnown q → If z (IsValue code notes q x) → If z (Here (up a))
+    value_up q known i z e = let k = i z e in subst (Here (up a)) (sym k.1.1) (inside_up code notes q known (here k.0 k.1.0))
 
     -- ---- one and two operands
 
@@ -80,12 +80,13 @@ module _ (p : Program) (found : rules.Found) (differ : ℕ → ℕ → Bool) (co
         Form q (code_then f h) (walk_then g j)
     one_then qa q beside first rest = then_goes code notes beside first rest
 
-    pub two_then : {f k h : Maker} {g l j : Walk} (qa qb q : Sort) → Beside f g → Beside k l →
+    pub two_then : {f k h : Maker} {g l j : Walk} (qa qb q : Sort) → IsKnown qa → Beside f g → Beside k l →
         Going code notes w ts x f g itself (IsValue code notes qa x) →
         ((z : Option State) → If z (Here (up a)) → Going code notes w ts z k l itself (IsValue code notes qb z)) →
         ((u : Option State) → If u (IsOver code notes (qb ∷ qa ∷ []) x) → Going code notes w ts u h j (with_value q x) (λ z. Unit {0})) →
         Form q (code_then f (code_then k h)) (walk_then g (walk_then l j))
-    two_then qa qb q b1 b2 first second rest = then_goes code notes b1 first (λ z i. then_goes code notes b2 (second z (value_up qa i))
+    two_then qa qb q known b1 b2 first second rest = then_goes code notes b1 first (λ z i.
+        then_goes code notes b2 (second z (value_up qa known i))
         (λ u k. rest u (λ v e. let r = k v e in let t = i r.0 r.1.0 in
         (t.0, (t.1.0, r.1.1 ∙ ap (over (qb ∷ [])) t.1.1)))))
 
@@ -185,104 +186,103 @@ module _ (p : Program) (found : rules.Found) (differ : ℕ → ℕ → Bool) (co
 
     -- ---- names
 
-    -- each sort that was found may be read
-    module _ (sorts_read : (m : ℕ) → IsRead (F.sort m)) (keys_read : (m : ℕ) → IsRead (F.key m)) where
-      abbrev NamedBy : Ref → Found → Type 0
-      NamedBy r f = If x (λ y. Named F (length sc) y.locals r f)
+    -- each sort that was found is known
+    abbrev NamedBy : Ref → Found → Type 0
+    NamedBy r f = If x (λ y. Named F (length sc) y.locals r f)
 
-      get_goes : (q r : Sort) (l : ℕ) → IsRead r → If x (λ y. at y.locals l ≡ Some r) → Fit r q → Form q (c.one (o.Get l)) n.last
-      get_goes q r l read h f = last_goes code notes (c.one (o.Get l)) (λ s. o.Get l) (λ s. refl) [] steady (over_itself code notes) q
-          (λ y e s m. step.get_asked code notes y (here y e).even m l (h y e) read f)
+    get_goes : (q r : Sort) (l : ℕ) → IsKnown r → If x (λ y. at y.locals l ≡ Some r) → Fit r q → Form q (c.one (o.Get l)) n.last
+    get_goes q r l read h f = last_goes code notes (c.one (o.Get l)) (λ s. o.Get l) (λ s. refl) [] steady (over_itself code notes) q
+        (λ y e s m. step.get_asked code notes y (here y e).even m l (h y e) read f)
 
-      push_goes : (r : Sort) (l : ℕ) → IsRead r → If x (λ y. at y.locals l ≡ Some r) →
-          Going code notes w ts x (c.one (o.Get l)) (n.one (gets l)) itself (IsOver code notes (r ∷ []) x)
-      push_goes r l read h = step_goes code notes (c.one (o.Get l)) (λ s. o.Get l) (λ s. refl) [] steady (over_itself code notes) (r ∷ [])
-          (gets l) (λ y k. ap (λ z. over (z ∷ []) y) (local_is y.locals l (h y k)))
-          (λ y e s m. step.get_asked code notes y (here y e).even m l (h y e) read (fits_itself (parent_of notes) r))
+    push_goes : (r : Sort) (l : ℕ) → IsKnown r → If x (λ y. at y.locals l ≡ Some r) →
+        Going code notes w ts x (c.one (o.Get l)) (n.one (gets l)) itself (IsOver code notes (r ∷ []) x)
+    push_goes r l read h = step_goes code notes (c.one (o.Get l)) (λ s. o.Get l) (λ s. refl) [] steady (over_itself code notes) (r ∷ [])
+        (gets l) (λ y k. ap (λ z. over (z ∷ []) y) (local_is y.locals l (h y k)))
+        (λ y e s m. step.get_asked code notes y (here y e).even m l (h y e) read (fits_itself (parent_of notes) r))
 
-      variable_goes : (q r : Sort) (l : ℕ) → If x (λ y. at y.locals l ≡ Some (s.var r)) → Fit r q →
-          Form q (code_then (c.one (o.Get l)) (c.one (o.Load 0))) (walk_then (n.one (gets l)) n.last)
-      variable_goes q r l h f = then_goes code notes counted.just (push_goes (s.var r) l tt h) (λ u i.
-          last_goes code notes (c.one (o.Load 0)) (λ s. o.Load 0) (λ s. refl) (s.var r ∷ []) steady i q
-          (λ y e s m. step.load_asked code notes y (here y e).even m 0 slot_var f))
+    variable_goes : (q r : Sort) (l : ℕ) → If x (λ y. at y.locals l ≡ Some (s.var r)) → Fit r q →
+        Form q (code_then (c.one (o.Get l)) (c.one (o.Load 0))) (walk_then (n.one (gets l)) n.last)
+    variable_goes q r l h f = then_goes code notes counted.just (push_goes (s.var r) l tt h) (λ u i.
+        last_goes code notes (c.one (o.Load 0)) (λ s. o.Load 0) (λ s. refl) (s.var r ∷ []) steady i q
+        (λ y e s m. step.load_asked code notes y (here y e).even m 0 slot_var f))
 
-      nothing_named : (q : Sort) → If x (λ y. ⊥) → Form q c.stuck n.ends
-      nothing_named q h = end_goes code notes c.stuck (λ s. o.Arm (suc s.at)) (λ s. refl) [] steady (over_itself code notes)
-          (λ y e s. elim (h y e) [ ])
+    nothing_named : (q : Sort) → If x (λ y. ⊥) → Form q c.stuck n.ends
+    nothing_named q h = end_goes code notes c.stuck (λ s. o.Arm (suc s.at)) (λ s. refl) [] steady (over_itself code notes)
+        (λ y e s. elim (h y e) [ ])
 
-      local_goes : (q : Sort) (m : ℕ) (f : Found) → NamedBy (ref.Local m) f → Fit (F.sort m) q → Form q (read_found f) (walks.read_found f)
-      local_goes q m (fixed l) h g = get_goes q (F.sort m) l (sorts_read m) (λ y e. there y (h y e)) g
-        where
-          there : (y : State) → Named F (length sc) y.locals (ref.Local m) (fixed l) → at y.locals l ≡ Some (F.sort m)
-          there y (constant_named v k e) = e
-      local_goes q m (varies l) h g = variable_goes q (F.sort m) l (λ y e. there y (h y e)) g
-        where
-          there : (y : State) → Named F (length sc) y.locals (ref.Local m) (varies l) → at y.locals l ≡ Some (s.var (F.sort m))
-          there y (variable_named v k e) = e
-      local_goes q m absent h g = nothing_named q (λ y e. none y (h y e))
-        where
-          none : (y : State) → Named F (length sc) y.locals (ref.Local m) absent → ⊥
-          none y h = elim h [ ]
+    local_goes : (q : Sort) (m : ℕ) (f : Found) → NamedBy (ref.Local m) f → Fit (F.sort m) q → Form q (read_found f) (walks.read_found f)
+    local_goes q m (fixed l) h g = get_goes q (F.sort m) l (fine.known.sort m) (λ y e. there y (h y e)) g
+      where
+        there : (y : State) → Named F (length sc) y.locals (ref.Local m) (fixed l) → at y.locals l ≡ Some (F.sort m)
+        there y (constant_named v k e) = e
+    local_goes q m (varies l) h g = variable_goes q (F.sort m) l (λ y e. there y (h y e)) g
+      where
+        there : (y : State) → Named F (length sc) y.locals (ref.Local m) (varies l) → at y.locals l ≡ Some (s.var (F.sort m))
+        there y (variable_named v k e) = e
+    local_goes q m absent h g = nothing_named q (λ y e. none y (h y e))
+      where
+        none : (y : State) → Named F (length sc) y.locals (ref.Local m) absent → ⊥
+        none y h = elim h [ ]
 
-      key_goes : (q : Sort) (m : ℕ) (f : Found) → NamedBy (ref.Key m) f → Fit (F.key m) q → Form q (read_found f) (walks.read_found f)
-      key_goes q m (fixed l) h g = get_goes q (F.key m) l (keys_read m) (λ y e. there y (h y e)) g
-        where
-          there : (y : State) → Named F (length sc) y.locals (ref.Key m) (fixed l) → at y.locals l ≡ Some (F.key m)
-          there y (key_named k e) = e
-      key_goes q m (varies l) h g = then_goes code notes counted.just
-          (step_goes code notes (c.one (o.Get l)) (λ s. o.Get l) (λ s. refl) [] steady (over_itself code notes) [] (gets l)
-          (λ y e. elim (h y e) [ ]) (λ y e s m. elim (h y e) [ ]))
-          (λ u i. last_goes code notes (c.one (o.Load 0)) (λ s. o.Load 0) (λ s. refl) [] steady i q (λ y e s m. elim (h y e) [ ]))
-      key_goes q m absent h g = nothing_named q (λ y e. none y (h y e))
-        where
-          none : (y : State) → Named F (length sc) y.locals (ref.Key m) absent → ⊥
-          none y h = elim h [ ]
+    key_goes : (q : Sort) (m : ℕ) (f : Found) → NamedBy (ref.Key m) f → Fit (F.key m) q → Form q (read_found f) (walks.read_found f)
+    key_goes q m (fixed l) h g = get_goes q (F.key m) l (fine.known.key m) (λ y e. there y (h y e)) g
+      where
+        there : (y : State) → Named F (length sc) y.locals (ref.Key m) (fixed l) → at y.locals l ≡ Some (F.key m)
+        there y (key_named k e) = e
+    key_goes q m (varies l) h g = then_goes code notes counted.just
+        (step_goes code notes (c.one (o.Get l)) (λ s. o.Get l) (λ s. refl) [] steady (over_itself code notes) [] (gets l)
+        (λ y e. elim (h y e) [ ]) (λ y e s m. elim (h y e) [ ]))
+        (λ u i. last_goes code notes (c.one (o.Load 0)) (λ s. o.Load 0) (λ s. refl) [] steady i q (λ y e s m. elim (h y e) [ ]))
+    key_goes q m absent h g = nothing_named q (λ y e. none y (h y e))
+      where
+        none : (y : State) → Named F (length sc) y.locals (ref.Key m) absent → ⊥
+        none y h = elim h [ ]
 
-      -- ---- the object of a method, and its fields
+    -- ---- the object of a method, and its fields
 
-      own_there : (d l : ℕ) (y : State) → IsOwn F (length sc) y.locals d (fixed l) → at y.locals l ≡ Some (s.obj d)
-      own_there d l y (is_own k e) = e
+    own_there : (d l : ℕ) (y : State) → IsOwn F (length sc) y.locals d (fixed l) → at y.locals l ≡ Some (s.obj d)
+    own_there d l y (is_own k e) = e
 
-      pub own_field_goes : (q b : Sort) (d k : ℕ) → al.this ≡ Some d → at (F.slots d) k ≡ Some b → Fit b q →
-          Form q (field_of_this (this_found sc) k) (walks.field_of_this (this_found sc))
-      own_field_goes q b d k e i f = by_local (this_found sc) (λ y j. (here y j).sees.own d e)
-        where
-          no_variable : (l : ℕ) (y : State) → IsOwn F (length sc) y.locals d (varies l) → ⊥
-          no_variable l y h = elim h [ ]
+    pub own_field_goes : (q b : Sort) (d k : ℕ) → al.this ≡ Some d → at (F.slots d) k ≡ Some b → Fit b q →
+        Form q (field_of_this (this_found sc) k) (walks.field_of_this (this_found sc))
+    own_field_goes q b d k e i f = by_local (this_found sc) (λ y j. (here y j).sees.own d e)
+      where
+        no_variable : (l : ℕ) (y : State) → IsOwn F (length sc) y.locals d (varies l) → ⊥
+        no_variable l y h = elim h [ ]
 
-          none : (y : State) → IsOwn F (length sc) y.locals d absent → ⊥
-          none y h = elim h [ ]
+        none : (y : State) → IsOwn F (length sc) y.locals d absent → ⊥
+        none y h = elim h [ ]
 
-          by_local : (r : Found) → If x (λ y. IsOwn F (length sc) y.locals d r) → Form q (field_of_this r k) (walks.field_of_this r)
-          by_local (fixed l) h = then_goes code notes counted.just (push_goes (s.obj d) l tt (λ y j. own_there d l y (h y j))) (λ u j.
-              last_goes code notes (c.one (o.Load k)) (λ s. o.Load k) (λ s. refl) (s.obj d ∷ []) steady j q (λ y v t m.
-              calls.field_passes p found code notes declared fine al xs y (here y v).even m k d (fits_itself (parent_of notes) (s.obj d)) i
-              f))
-          by_local (varies l) h = nothing_named q (λ y j. no_variable l y (h y j))
-          by_local absent h = nothing_named q (λ y j. none y (h y j))
+        by_local : (r : Found) → If x (λ y. IsOwn F (length sc) y.locals d r) → Form q (field_of_this r k) (walks.field_of_this r)
+        by_local (fixed l) h = then_goes code notes counted.just (push_goes (s.obj d) l tt (λ y j. own_there d l y (h y j))) (λ u j.
+            last_goes code notes (c.one (o.Load k)) (λ s. o.Load k) (λ s. refl) (s.obj d ∷ []) steady j q (λ y v t m.
+            calls.field_passes p found code notes declared fine al xs y (here y v).even m k d (fits_itself (parent_of notes) (s.obj d)) i
+            f))
+        by_local (varies l) h = nothing_named q (λ y j. no_variable l y (h y j))
+        by_local absent h = nothing_named q (λ y j. none y (h y j))
 
-      pub this_goes : (q : Sort) (d : ℕ) → al.this ≡ Some d → Fit (s.obj d) q →
-          Form q (read_this (this_found sc)) (walks.read_this (this_found sc))
-      this_goes q d e f = by_local (this_found sc) (λ y j. (here y j).sees.own d e)
-        where
-          no_variable : (l : ℕ) (y : State) → IsOwn F (length sc) y.locals d (varies l) → ⊥
-          no_variable l y h = elim h [ ]
+    pub this_goes : (q : Sort) (d : ℕ) → al.this ≡ Some d → Fit (s.obj d) q →
+        Form q (read_this (this_found sc)) (walks.read_this (this_found sc))
+    this_goes q d e f = by_local (this_found sc) (λ y j. (here y j).sees.own d e)
+      where
+        no_variable : (l : ℕ) (y : State) → IsOwn F (length sc) y.locals d (varies l) → ⊥
+        no_variable l y h = elim h [ ]
 
-          none : (y : State) → IsOwn F (length sc) y.locals d absent → ⊥
-          none y h = elim h [ ]
+        none : (y : State) → IsOwn F (length sc) y.locals d absent → ⊥
+        none y h = elim h [ ]
 
-          by_local : (r : Found) → If x (λ y. IsOwn F (length sc) y.locals d r) → Form q (read_this r) (walks.read_this r)
-          by_local (fixed l) h = get_goes q (s.obj d) l tt (λ y j. own_there d l y (h y j)) f
-          by_local (varies l) h = nothing_named q (λ y j. no_variable l y (h y j))
-          by_local absent h = nothing_named q (λ y j. none y (h y j))
+        by_local : (r : Found) → If x (λ y. IsOwn F (length sc) y.locals d r) → Form q (read_this r) (walks.read_this r)
+        by_local (fixed l) h = get_goes q (s.obj d) l tt (λ y j. own_there d l y (h y j)) f
+        by_local (varies l) h = nothing_named q (λ y j. no_variable l y (h y j))
+        by_local absent h = nothing_named q (λ y j. none y (h y j))
 
-      -- a name
-      pub name_goes : (q r : Sort) (n : Bytes) (k : Option Ref) → NameIs p F al xs n k r → Fit r q →
-          Form q (named p differ k n sc) (noting.named k n sc)
-      unfolding named noting.named
-      name_goes q r n k (is_local {m = m} e) f = local_goes q m (find n sc) (λ y i. (here y i).sees.names n (ref.Local m) e) f
-      name_goes q r n k (is_key_name {m = m} e) f = key_goes q m (find n sc) (λ y i. (here y i).sees.names n (ref.Key m) e) f
-      name_goes q r n k (is_field {c = d} {i = j} g e i) f = own_field_goes q r g j e i f
+    -- a name
+    pub name_goes : (q r : Sort) (n : Bytes) (k : Option Ref) → NameIs p F al xs n k r → Fit r q →
+        Form q (named p differ k n sc) (noting.named k n sc)
+    unfolding named noting.named
+    name_goes q r n k (is_local {m = m} e) f = local_goes q m (find n sc) (λ y i. (here y i).sees.names n (ref.Local m) e) f
+    name_goes q r n k (is_key_name {m = m} e) f = key_goes q m (find n sc) (λ y i. (here y i).sees.names n (ref.Key m) e) f
+    name_goes q r n k (is_field {c = d} {i = j} g e i) f = own_field_goes q r g j e i f
 
     -- ---- what is made of operands in turn
 

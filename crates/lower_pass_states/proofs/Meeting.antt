@@ -1,18 +1,20 @@
 -- Where a state leads: to what is noted at an index.
-use Rattle.std.proofs.Common.{◌≡◌, ℕ, suc, map, List, [], ◌∷◌, Option, Some, None, cond, refl, sym, ◌∙◌, subst, ap}
+use Rattle.std.proofs.Common.{◌≡◌, ℕ, suc, map, List, [], ◌∷◌, Option, Some, None, cond, true, refl, sym, ◌∙◌, subst, ap}
+use Rattle.std.proofs.lemmas.Option.{none-some}
+use Rattle.verse_code.specs.declared.operations.Op.TheVariants as o
 use Rattle.std.specs.Prelude.{option_map, slice_get}
 use Rattle.verse_code.specs.declared.codes.Code.{Code}
 use Rattle.verse_sorts.specs.Sorts as s
 use Rattle.verse_sorts.specs.Sorts.{Sort, Fits, from_never}
 use Rattle.verse_sorts.specs.Typing.{AllFit, fit_no, fit_so}
 use Rattle.verse_sorts.proofs.Fitting.{all_itself, all_fit_on}
-use Rattle.verse_verify_kept.specs.Notes.{Notes, parent_of, point_at, live}
+use Rattle.verse_verify_kept.specs.Notes.{FuncNote, Notes, Point, parent_of, point_at, live}
 use Rattle.verse_verify_kept.specs.Rules.{AnyNever, first_never, later_never, Leads, Sound, TriesFit}
 use Rattle.verse_verify_kept.proofs.Places.{kin_itself, kin_on, tries_itself, tries_on}
 use Rattle.verse_verify_faults.specs.Spots.{above, opens, point_of}
 use Rattle.verse_verify_faults.proofs.Cutting.{above_fit, opens_fit}
 use Rattle.lower_notes.specs.States.{State, Deferred, spot_of}
-use Rattle.lower_pass_states.proofs.Points.{pt, Even}
+use Rattle.lower_pass_states.proofs.Points.{pt, Even, opened}
 
 abbrev pub entries : List Deferred → List ℕ
 entries ds = map (λ (d : Deferred). d.entry) ds
@@ -86,9 +88,61 @@ module _ (c : Code) (n : Notes) where
   Noted i [] = Unit {0}
   Noted i (x ∷ xs) = (slice_get n.points i ≡ Some (point_of (option_map spot_of x))) × Noted (suc i) xs
 
+  -- a Try that is reached, and so is its label
+  pub record Opened (t : ℕ) : Type 0 where
+    pub label : ℕ
+    pub is_try : slice_get c.ops t ≡ Some (o.Try label)
+    pub here : (q : Point) × (point_at n t ≡ Some q)
+    pub there : (q : Point) × (point_at n label ≡ Some q)
+
+  abbrev pub AllOpened : List ℕ → Type 0
+  AllOpened [] = Unit {0}
+  AllOpened (t ∷ ts) = Opened t × AllOpened ts
+
+  -- a function whose task may wait
+  pub record Lasting (k : ℕ) : Type 0 where
+    pub func : FuncNote
+    pub noted : slice_get n.functions k ≡ Some func
+    pub waits : func.may_wait ≡ true
+
+  -- in the deferred block e, whose first operation is noted
+  pub record InBlock (e func : ℕ) (arm : Option Sort) (outer : List ℕ) (under : ℕ) : Type 0 where
+    pub point : Point
+    pub live : point_at n e ≡ Some point
+    pub same_func : func ≡ point.func
+    pub same_arm : arm ≡ point.arm
+    pub block : point.block ≡ Some e
+    pub same_outer : outer ≡ point.outer
+    pub same_under : under ≡ point.under
+    pub stack : point.stack ≡ []
+    pub tries : point.tries ≡ []
+    pub defers : point.defers ≡ []
+
+  -- where a state stands: with these Trys open, in an arm, in a deferred block
+  pub record Ground (ts : List ℕ) (func : ℕ) (arm : Option Sort) (block : Option ℕ) (outer : List ℕ) (under : ℕ) : Type 0 where
+    pub tries : AllOpened ts
+    pub lasts : (r : Sort) → arm ≡ Some r → Lasting func
+    pub within : (e : ℕ) → block ≡ Some e → InBlock e func arm outer under
+
+  abbrev pub Stood : List ℕ → State → Type 0
+  Stood ts x = Ground ts x.func x.arm x.block x.outer x.under
+
+  pub stands_bare : (func : ℕ) (outer : List ℕ) (under : ℕ) → Ground [] func None None outer under
+  stands_bare func outer under = record {
+    tries = tt;
+    lasts = λ r e. absurd (none-some r e);
+    within = λ e f. absurd (none-some e f);
+  }
+
+  -- a state that fulfils the rules, its heights, and where it stands
+  pub record Held (i : ℕ) (x : State) : Type 0 where
+    pub sound : Sound c n i (pt x)
+    pub even : Even x
+    pub stood : Stood (opened x) x
+
   abbrev pub SoundAt : ℕ → Option State → Type 0
   SoundAt i None = Unit {0}
-  SoundAt i (Some x) = Sound c n i (pt x)
+  SoundAt i (Some x) = Held i x
 
   -- what is noted at each operation from an index on fulfils the rules
   abbrev pub AllSound : ℕ → List (Option State) → Type 0

@@ -1,12 +1,11 @@
 -- The points of states: what becomes of one where operands come and go, and where a Try opens.
 use Rattle.std.proofs.Common.{◌≡◌, ℕ, suc, ◌-◌, ◌≤◌, length, take, drop, List, [], ◌∷◌, ◌++◌, true, refl, sym, ap}
 use Rattle.std.proofs.Common.{subst, arith, le-leb}
-use Rattle.std.proofs.lemmas.Bool.{leb-true, and_from}
+use Rattle.std.proofs.lemmas.Bool.{leb-true, and_from, and_parts}
 use Rattle.verse_sorts.specs.Sorts.{Sort}
 use Rattle.verse_verify_kept.specs.Notes as notes
 use Rattle.verse_verify_kept.specs.Notes.{Open, Point}
 use Rattle.verse_verify_faults.specs.Spots.{Mark, room, above, beneath, opens, even, cut}
-use Rattle.verse_verify_faults.proofs.Fitting.{both}
 use Rattle.verse_verify_faults.proofs.Cutting.{whole, above_on, opens_on, even_more, under}
 use Rattle.lower_notes.specs.States.{State, spot_of, indices, gives, pops, tried}
 
@@ -57,7 +56,7 @@ names_of x = ap (λ is. is ++ x.outer) (indices_of x.stack x.tries)
 
 under_even : (n : ℕ) (ms : List Mark) → even n ms ≡ true → under ms ≤ n
 under_even n [] e = omega arith
-under_even n (m ∷ ms) e = leb-true m.height n (both _ _ e).0
+under_even n (m ∷ ms) e = leb-true m.height n (and_parts _ _ e).0
 
 module _ (x : State) (e : Even x) where
   beneath_all : List Sort

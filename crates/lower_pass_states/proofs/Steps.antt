@@ -8,14 +8,14 @@ use Rattle.verse_code.specs.declared.codes.Code.{Code}
 use Rattle.verse_code.specs.declared.operations.Op.{Op}
 use Rattle.verse_code.specs.declared.operations.Op.TheVariants as o
 use Rattle.verse_sorts.specs.Sorts as s
-use Rattle.verse_sorts.specs.Sorts.{Sort, Fits}
+use Rattle.verse_sorts.specs.Sorts.{Sort, IsKnown, Fits}
 use Rattle.verse_sorts.specs.Typing.{at, AllFit, fit_no, fit_so}
 use Rattle.verse_sorts.proofs.Fitting.{all_itself, all_fit_on}
 use Rattle.verse_verify_kept.specs.Notes.{Notes, Point, ClassNote, FuncNote, parent_of}
 use Rattle.verse_verify_kept.specs.Rules as r
 use Rattle.verse_verify_kept.specs.Rules.{AnyNever, Leads, To, Passes, Asked, asked, no_operand, no_local, MayFail, in_try, in_function}
 use Rattle.verse_verify_kept.specs.Rules.{MayWait, MayCall}
-use Rattle.verse_verify_kept.specs.Rules.{Pops, pops_no, pops_so, Queried, Counted, Shown, AllIn, Slot, IsRead, TriesFit}
+use Rattle.verse_verify_kept.specs.Rules.{Pops, pops_no, pops_so, Queried, Counted, Shown, AllIn, Slot, TriesFit}
 use Rattle.lower_notes.specs.States.{State}
 use Rattle.lower_pass_states.proofs.Points.{pt, Even, over, stack_over, tries_over}
 use Rattle.lower_pass_states.proofs.Meeting.{LeadsTo, Meets, no_value, leads_to}
@@ -141,7 +141,7 @@ module _ (code : Code) (notes : Notes) where
       pub unit_asked : Fit s.unit q → Asked code notes i (pt y) o.Unit
       unit_asked f = gives_one [] m f r.of_unit
 
-      pub get_asked : (l : ℕ) {a : Sort} → at y.locals l ≡ Some a → IsRead a → Fit a q → Asked code notes i (pt y) (o.Get l)
+      pub get_asked : (l : ℕ) {a : Sort} → at y.locals l ≡ Some a → IsKnown a → Fit a q → Asked code notes i (pt y) (o.Get l)
       get_asked l e h f = gives_one [] m f (r.of_get e h)
 
       pub event_asked : (z : ℕ) (u : Sort) → Fit (s.event u) q → Asked code notes i (pt y) (o.Event z)

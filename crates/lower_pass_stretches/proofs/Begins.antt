@@ -186,7 +186,7 @@ module _ (p : Program) (found : Found) (differ : ℕ → ℕ → Bool) where
     pub tree_begins : (b : Tree) (sc : Scope) (a : Around) → Begins (notes.walk p found differ b sc a)
     tree_begins (tree i pl x) sc a at y = shape_begins x i pl sc a at y
 
-    shape_begins : (x : Shape) (i : ℕ) (pl : Place) (sc : Scope) (a : Around) → Begins (notes.shape_walk p found differ x i pl sc a)
+    pub shape_begins : (x : Shape) (i : ℕ) (pl : Place) (sc : Scope) (a : Around) → Begins (notes.shape_walk p found differ x i pl sc a)
     shape_begins (t.Shape.block cs) i pl sc a at y = all_begin cs sc a at y
     shape_begins (t.Shape.definition x b) i pl sc a at y = more _ (tree_begins b sc a at y)
     shape_begins (t.Shape.typed x w b) i pl sc a at y = more _ (tree_begins b sc a at y)
@@ -251,17 +251,17 @@ module _ (p : Program) (found : Found) (differ : ℕ → ℕ → Bool) where
     shape_begins t.Shape.sleep_forever i pl sc a at y = starts
     shape_begins x i pl sc a at y = starts
 
-    all_begin : (ts : Trees) (sc : Scope) (a : Around) → Begins (notes.statements p found differ ts sc a)
+    pub all_begin : (ts : Trees) (sc : Scope) (a : Around) → Begins (notes.statements p found differ ts sc a)
     all_begin no_trees sc a at y = starts
     all_begin (more_trees (tree i pl x) cs) sc a at y = more _
         (stated_begins p found differ (statement_of_shape x pl) (found.sort i) sc (notes.walk p found differ (tree i pl x) sc a)
         (notes.inner_shape p found differ x sc a) (tree_begins (tree i pl x) sc a)
         (inner_shape_begins x sc a) at y)
 
-    inner_begins : (b : Tree) (sc : Scope) (a : Around) → Begins (notes.inner p found differ b sc a)
+    pub inner_begins : (b : Tree) (sc : Scope) (a : Around) → Begins (notes.inner p found differ b sc a)
     inner_begins (tree i pl x) sc a = inner_shape_begins x sc a
 
-    inner_shape_begins : (x : Shape) (sc : Scope) (a : Around) → Begins (notes.inner_shape p found differ x sc a)
+    pub inner_shape_begins : (x : Shape) (sc : Scope) (a : Around) → Begins (notes.inner_shape p found differ x sc a)
     inner_shape_begins (t.Shape.definition x b) sc a at y = tree_begins b sc a at y
     inner_shape_begins (t.Shape.typed x w b) sc a at y = tree_begins b sc a at y
     inner_shape_begins (t.Shape.variable x w b) sc a at y = tree_begins b sc a at y
@@ -272,46 +272,46 @@ module _ (p : Program) (found : Found) (differ : ℕ → ℕ → Bool) where
     inner_shape_begins (t.Shape.range x b c) sc a at y = more _ (tree_begins b sc a at y)
     inner_shape_begins x sc a at y = starts
 
-    args_begin : (ts : Trees) (sc : Scope) (a : Around) (g : Walk) → Begins g → Begins (walk_then (notes.args p found differ ts sc a) g)
+    pub args_begin : (ts : Trees) (sc : Scope) (a : Around) (g : Walk) → Begins g → Begins (walk_then (notes.args p found differ ts sc a) g)
     args_begin no_trees sc a g h at y = h at y
     args_begin (more_trees b ts) sc a g h at y = more _ (more _ (tree_begins b sc a at y))
 
-    holes_begin : (hs : Holes) (sc : Scope) (a : Around) → Begins (walk_then (notes.holed p found differ hs sc a) n.last)
+    pub holes_begin : (hs : Holes) (sc : Scope) (a : Around) → Begins (walk_then (notes.holed p found differ hs sc a) n.last)
     holes_begin no_holes sc a at y = starts
     holes_begin (more_holes b bs hs) sc a at y = more _ (more _ (tree_begins b sc a at y))
 
-    pairs_begin : (k : Sort) (ps : t.Pairs) (sc : Scope) (a : Around) →
+    pub pairs_begin : (k : Sort) (ps : t.Pairs) (sc : Scope) (a : Around) →
         Begins (walk_then (notes.paired_args p found differ k ps sc a) n.last)
     pairs_begin k t.Pairs.no_pairs sc a at y = starts
     pairs_begin k (t.Pairs.more_pairs b c ps) sc a at y = more _ (more _ (tree_begins b sc a at y))
 
-    made_begins : (o : Option ℕ) (gs : Givens) (l : ℕ) (sc : Scope) (a : Around) →
+    pub made_begins : (o : Option ℕ) (gs : Givens) (l : ℕ) (sc : Scope) (a : Around) →
         Begins (notes.instance_of p found differ o gs l (notes.given_args p found differ gs sc a))
     made_begins None gs l sc a at y = starts
     made_begins (Some c) no_givens l sc a at y = fields_begin p found differ (fields_of p c) no_givens l at y
     made_begins (Some c) (more_givens x b gs) l sc a at y = more _ (more _ (tree_begins b sc a at y))
 
-    quotient_begins : (ts : Trees) (sc : Scope) (a : Around) → Begins (notes.quotient p found differ ts sc a)
+    pub quotient_begins : (ts : Trees) (sc : Scope) (a : Around) → Begins (notes.quotient p found differ ts sc a)
     quotient_begins no_trees sc a at y = starts
     quotient_begins (more_trees (tree i pl x) ts) sc a at y = quotient_shape_begins x sc a at y
 
-    quotient_shape_begins : (x : Shape) (sc : Scope) (a : Around) → Begins (notes.quotient_shape p found differ x sc a)
+    pub quotient_shape_begins : (x : Shape) (sc : Scope) (a : Around) → Begins (notes.quotient_shape p found differ x sc a)
     quotient_shape_begins (t.Shape.chained x b c) sc a at y = more _ (tree_begins b sc a at y)
     quotient_shape_begins x sc a at y = starts
 
-    target_begins : (b : Tree) (base : Base) (sc : Scope) (a : Around) → Begins (notes.target_walk p found differ b base sc a)
+    pub target_begins : (b : Tree) (base : Base) (sc : Scope) (a : Around) → Begins (notes.target_walk p found differ b base sc a)
     target_begins (tree i pl x) base sc a = target_shape_begins x base sc a
 
-    target_shape_begins : (x : Shape) (base : Base) (sc : Scope) (a : Around) → Begins (notes.target_shape p found differ x base sc a)
+    pub target_shape_begins : (x : Shape) (base : Base) (sc : Scope) (a : Around) → Begins (notes.target_shape p found differ x base sc a)
     target_shape_begins (t.Shape.name x) base sc a at y = reads_base base sc at y
     target_shape_begins (t.Shape.member b x) base sc a at y = tree_begins b sc a at y
     target_shape_begins (t.Shape.index b ts) base sc a at y = more _ (target_begins b base sc a at y)
     target_shape_begins x base sc a at y = starts
 
-    spawned_begins : (b : Tree) (sc : Scope) (a : Around) → Begins (notes.spawned p found differ b sc a)
+    pub spawned_begins : (b : Tree) (sc : Scope) (a : Around) → Begins (notes.spawned p found differ b sc a)
     spawned_begins (tree i pl x) sc a = spawned_shape_begins x pl sc a
 
-    spawned_shape_begins : (x : Shape) (pl : Place) (sc : Scope) (a : Around) → Begins (notes.spawned_shape p found differ x pl sc a)
+    pub spawned_shape_begins : (x : Shape) (pl : Place) (sc : Scope) (a : Around) → Begins (notes.spawned_shape p found differ x pl sc a)
     spawned_shape_begins (t.Shape.call b ts) pl sc a at y =
         (by_callee (form.picking None) (spawned_callee (callee_of p b (form.picking None) pl))
         _ _ _ _ (spawned_is (form.picking None) (callee_of p b (form.picking None) pl) (callee_is p b (form.picking None) pl))

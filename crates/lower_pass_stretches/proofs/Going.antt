@@ -8,7 +8,7 @@ use Rattle.verse_code.specs.declared.codes.Code.{Code}
 use Rattle.verse_code.specs.declared.operations.Op.{Op}
 use Rattle.verse_code.specs.declared.operations.Op.TheVariants as o
 use Rattle.verse_verify_kept.specs.Notes.{Notes}
-use Rattle.verse_verify_kept.specs.Rules.{Around, around_no, around_so, Asked, Ready, Sound}
+use Rattle.verse_verify_kept.specs.Rules.{Around, around_no, around_so, Asked, Ready}
 use Rattle.lower_code.specs.Pieces.{Spot, Piece, Maker, behind, past, joined}
 use Rattle.lower_code.proofs.Standing.{Tables, Stands, first_stands, rest_stands, behind_more, behind_least}
 use Rattle.lower_notes.specs.States.{State}
@@ -17,7 +17,7 @@ use Rattle.lower_notes.specs.Stretches.{Stretch, Walk, deeper, is_left, with_val
 use Rattle.lower_notes.specs.Laws.{Beside}
 use Rattle.lower_notes.proofs.Counted.{code_then, walk_then}
 use Rattle.lower_pass_states.proofs.Points.{pt, Even, opened, names_of}
-use Rattle.lower_pass_states.proofs.Meeting.{Meets, MeetsAt, Noted, AllSound, entries}
+use Rattle.lower_pass_states.proofs.Meeting.{Meets, MeetsAt, Noted, AllSound, Stood, Held, entries}
 
 -- The innermost loop: where it goes on, the state in which it began, and whether it may be left; and how many locals
 -- the function has.
@@ -110,15 +110,20 @@ module _ (code : Code) (notes : Notes) where
     pub even : Even x
     pub names : opened x ≡ ts
     pub ready : Ready code notes (pt x) x.locals (entries x.defers)
+    pub stood : Stood code notes ts x
 
   pub sound_of : {ts : List ℕ} {i b : ℕ} {op : Op} (x : State) → Steady ts x → Within ts i b → i < b →
-      slice_get code.ops i ≡ Some op → Asked code notes i (pt x) op → Sound code notes i (pt x)
+      slice_get code.ops i ≡ Some op → Asked code notes i (pt x) op → Held code notes i x
   sound_of {ts} {i} {b} {op} x st w l is a = record {
-    around = subst (Around code notes i) (sym (names_of x ∙ st.names)) (around_of ts w l);
-    ready = st.ready;
-    op = op;
-    is_op = is;
-    passes = a;
+    sound = record {
+      around = subst (Around code notes i) (sym (names_of x ∙ st.names)) (around_of ts w l);
+      ready = st.ready;
+      op = op;
+      is_op = is;
+      passes = a;
+    };
+    even = st.even;
+    stood = subst (λ ts. Stood code notes ts x) (sym st.names) st.stood;
   }
 
   -- The states at the operations of a stretch pass, where what stands behind it meets what is noted there; of the exit

@@ -5,7 +5,7 @@ use Rattle.std.specs.Prelude.{slice_get}
 use Rattle.std.proofs.lemmas.List.{append_assoc}
 use Rattle.verse_code.specs.declared.codes.Code.{Code}
 use Rattle.verse_names_declarations.specs.Names.{Table}
-use Rattle.verse_sorts.specs.Sorts.{Sort, to_any}
+use Rattle.verse_sorts.specs.Sorts.{Sort, IsKnown, to_any}
 use Rattle.verse_sorts.specs.Typing.{AllFit, fit_so}
 use Rattle.verse_sorts.proofs.Fitting.{all_fit_on}
 use Rattle.verse_sound_rules.specs.Found as rules
@@ -20,7 +20,7 @@ use Rattle.lower_notes.specs.Stretches.{anys}
 use Rattle.lower_pass_states.proofs.Points.{pt, Even, opened, over, names_of, tries_over, even_over}
 use Rattle.lower_pass_states.proofs.Locals.{Blank}
 use Rattle.lower_pass_stretches.proofs.Names.{Sees}
-use Rattle.lower_pass_states.proofs.Meeting.{entries, Each}
+use Rattle.lower_pass_states.proofs.Meeting.{entries, Each, Stood}
 use Rattle.lower_pass_stretches.proofs.Going.{Way, Steady}
 use Rattle.lower_pass_states.proofs.Steps.{fails_over, waits_over}
 
@@ -129,6 +129,7 @@ module _ (code : Code) (notes : Notes) where
       Type 0 where
     pub even : Even y
     pub names : opened y ≡ ts
+    pub stood : Stood code notes ts y
     pub blocks : Blocks (pt y) ts (a.defers - a.base) y.defers y.locals
     pub count : a.defers ≡ y.under + length y.defers
     pub order : (a.base ≤ a.floor) × (a.floor ≤ a.defers)
@@ -144,13 +145,19 @@ module _ (code : Code) (notes : Notes) where
 
   module _ {found : rules.Found} {w : Way} {ts : List ℕ} {al : Allowed} {xs : Table} {sc : Scope} {a : Around} {y : State} where
     pub steady_of : Inside found w ts al xs sc a y → Steady code notes ts y
-    steady_of h = record { even = h.even; names = h.names; ready = ready_of (sym h.names ∙ sym (names_of y)) h.blocks }
+    steady_of h = record {
+      even = h.even;
+      names = h.names;
+      ready = ready_of (sym h.names ∙ sym (names_of y)) h.blocks;
+      stood = h.stood;
+    }
 
-    -- above one more operand
-    pub inside_up : (q : Sort) → Inside found w ts al xs sc a y → Inside found w ts al xs sc (up a) (over (q ∷ []) y)
-    inside_up q h = record {
+    -- above one more operand, which a `break` may leave
+    pub inside_up : (q : Sort) → IsKnown q → Inside found w ts al xs sc a y → Inside found w ts al xs sc (up a) (over (q ∷ []) y)
+    inside_up q known h = record {
       even = even_over y h.even (q ∷ []);
       names = h.names;
+      stood = h.stood;
       blocks = blocks_moved (record { func = refl; arm = refl; under = refl })
           (names_of (over (q ∷ []) y) ∙ sym (names_of y)) h.blocks;
       count = h.count;
@@ -182,7 +189,7 @@ module _ (code : Code) (notes : Notes) where
         outer = g.outer;
         under = g.under;
         tries = g.tries;
-        stack = fit_so to_any g.stack;
+        stack = fit_so (to_any known) g.stack;
         locals = g.locals;
         since = g.since;
       };

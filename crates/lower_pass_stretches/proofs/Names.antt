@@ -15,7 +15,8 @@ use Rattle.verse_meaning.specs.Forms.{this_name}
 use Rattle.verse_sound_rules.specs.Found.{New}
 use Rattle.verse_sound_rules.specs.Found as rules
 use Rattle.lower_code.specs.Scopes.{constant_at, variable_at, hidden, Scope, Found, fixed, varies, find, this_found}
-use Rattle.lower_sound.proofs.Tables.{one_test, test_same, look_new, look_old}
+use Rattle.verse_meaning.proofs.Names.{one_test, test_same}
+use Rattle.verse_sound_rules.proofs.Tables.{look_new, look_old}
 
 -- the first locals are the same
 abbrev pub SameBelow : ℕ → List Sort → List Sort → Type 0

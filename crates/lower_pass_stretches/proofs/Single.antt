@@ -6,7 +6,7 @@ use Rattle.verse_code.specs.declared.codes.Code.{Code}
 use Rattle.verse_code.specs.declared.operations.Op.{Op}
 use Rattle.verse_sorts.specs.Sorts.{Sort}
 use Rattle.verse_verify_kept.specs.Notes.{Notes}
-use Rattle.verse_verify_kept.specs.Rules.{Asked, Sound}
+use Rattle.verse_verify_kept.specs.Rules.{Asked}
 use Rattle.lower_code.specs.Pieces as c
 use Rattle.lower_code.specs.Pieces.{Spot, Item, sure, Piece, Maker, behind, past}
 use Rattle.lower_code.proofs.Standing.{Here, Lie}
@@ -14,7 +14,7 @@ use Rattle.lower_notes.specs.States.{State, Change, gives}
 use Rattle.lower_notes.specs.Stretches as n
 use Rattle.lower_notes.specs.Stretches.{Stretch, Walk, with_value}
 use Rattle.lower_pass_states.proofs.Points.{pt, over, gives_is}
-use Rattle.lower_pass_states.proofs.Meeting.{Meets, leads_to, MeetsAt, leads_itself}
+use Rattle.lower_pass_states.proofs.Meeting.{Held, Meets, leads_to, MeetsAt, leads_itself}
 use Rattle.lower_pass_stretches.proofs.Going.{Way, If, itself, Lies, Within, Steady, sound_of, Going, everywhere}
 
 -- a stretch of one operation
@@ -35,7 +35,7 @@ module _ (code : Code) (notes : Notes) where
   module _ {w : Way} {ts : List ℕ} (f : Maker) (op : Spot → Op) (single : OneItem f op) where
     one_sound : (s : Spot) (z : State) {r : Stretch} → Steady code notes ts z → Lies code notes w s (f s) r →
         Within code notes ts s.at (past s (f s)).at → Asked code notes s.at (pt z) (op s) →
-        Sound code notes s.at (pt z)
+        Held code notes s.at z
     one_sound s z st l v a = sound_of code notes z st v (subst (λ i. s.at < i) (sym (past_is f op single s)) (omega arith))
         (op_at f op single w s l).is a
 

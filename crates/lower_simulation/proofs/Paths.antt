@@ -1,6 +1,7 @@
 -- Names of tasks: which begin with which, and lists of tasks.
 use Rattle.std.proofs.Common.{◌≡◌, ℕ, zero, suc, ◌<◌, List, [], ◌∷◌, ◌++◌, Bool, true, false, cond, refl, sym, ap, ◌∙◌, subst, arith}
 use Rattle.verse_meaning_state.specs.Waits.{eqn, ltn}
+use Rattle.verse_meaning_state.proofs.Numbers.{eqn_is, eqn_same, ltn_yes}
 use Rattle.verse_code_machine.specs.Tasks.{Task, Rest, asleep, group, onto, waits_of, waits_with, starts, same_path, since}
 use Rattle.verse_code_machine.specs.Cancelling.{without, inserted, gone_before, gone_behind}
 
@@ -8,16 +9,6 @@ use Rattle.verse_code_machine.specs.Cancelling.{without, inserted, gone_before, 
 abbrev pub ordered : List Task → List Task → List Task
 ordered acc [] = acc
 ordered acc (t ∷ ts) = ordered (inserted t acc) ts
-
-pub eqn_self : (n : ℕ) → eqn n n ≡ true
-eqn_self zero = refl
-eqn_self (suc n) = eqn_self n
-
-eqn_same : (a b : ℕ) → eqn a b ≡ true → a ≡ b
-eqn_same zero zero e = refl
-eqn_same zero (suc b) e = cc
-eqn_same (suc a) zero e = cc
-eqn_same (suc a) (suc b) e = ap suc (eqn_same a b e)
 
 both_false : (b p q : Bool) → (p ≡ false → q ≡ false) → cond b p false ≡ false → cond b q false ≡ false
 both_false true p q f h = f h
@@ -61,17 +52,6 @@ starts_shorter [] b x h = refl
 starts_shorter (i ∷ a) b [] h = cc
 starts_shorter (i ∷ a) b (j ∷ x) h = both_true (eqn i j) _ _ (starts_shorter a b x) h
 
-pub eqn_less : (a b : ℕ) → a < b → eqn a b ≡ false
-eqn_less zero zero lt = absurd (omega (arith, lt))
-eqn_less zero (suc b) lt = refl
-eqn_less (suc a) zero lt = refl
-eqn_less (suc a) (suc b) lt = eqn_less a b (omega (arith, lt))
-
-pub eqn_more : (a b : ℕ) → b < a → eqn a b ≡ false
-eqn_more zero b lt = absurd (omega (arith, lt))
-eqn_more (suc a) zero lt = refl
-eqn_more (suc a) (suc b) lt = eqn_more a b (omega (arith, lt))
-
 -- not beneath a task of its own, then the parent is not
 pub starts_root : (k : ℕ) (a b : List ℕ) → starts (k ∷ []) (a ++ b) ≡ false → starts (k ∷ []) a ≡ false
 starts_root k [] b h = refl
@@ -95,10 +75,6 @@ pub starts_parent : (a : List ℕ) (k : ℕ) → starts (a ++ k ∷ []) a ≡ fa
 starts_parent [] k = refl
 starts_parent (i ∷ a) k = and_false (eqn i i) _ (starts_parent a k)
 
-pub same_self : (a : List ℕ) → same_path a a ≡ true
-same_self [] = refl
-same_self (i ∷ a) = subst (λ b. cond b (same_path a a) false ≡ true) (sym (eqn_self i)) (same_self a)
-
 pub same_child : (a x : List ℕ) (k : ℕ) → starts (a ++ k ∷ []) x ≡ true → same_path a x ≡ false
 same_child [] [] k h = cc
 same_child [] (j ∷ x) k h = refl
@@ -107,7 +83,7 @@ same_child (i ∷ a) (j ∷ x) k h = and_true (eqn i j) _ _ (same_child a x k) h
 
 pub starts_self : (a : List ℕ) → starts a a ≡ true
 starts_self [] = refl
-starts_self (i ∷ a) = subst (λ b. cond b (starts a a) false ≡ true) (sym (eqn_self i)) (starts_self a)
+starts_self (i ∷ a) = subst (λ b. cond b (starts a a) false ≡ true) (sym (eqn_same i)) (starts_self a)
 
 -- not beneath any child below n
 begun_before : (b : Bool) (n : ℕ) (a x : List ℕ) → ((k : ℕ) → k < n → cond b (starts (a ++ k ∷ []) x) false ≡ false) →
@@ -134,11 +110,6 @@ begun_after : (b : Bool) (n : ℕ) (p q : Bool) → (p ≡ true → q ≡ true) 
 begun_after true n p q f h = f h
 begun_after false n p q f h = h
 
-pub lt_true : (j n : ℕ) → j < n → ltn j n ≡ true
-lt_true j zero lt = absurd (omega (arith, lt))
-lt_true zero (suc n) lt = refl
-lt_true (suc j) (suc n) lt = lt_true j n (omega (arith, lt))
-
 of_eqn : (k j : ℕ) → cond (eqn k j) true false ≡ true → k ≡ j
 of_eqn zero zero h = refl
 of_eqn zero (suc j) h = cc
@@ -148,7 +119,7 @@ of_eqn (suc k) (suc j) h = ap suc (of_eqn k j h)
 -- beneath a child below n
 pub since_one : (a : List ℕ) (k n : ℕ) (x : List ℕ) → k < n → starts (a ++ k ∷ []) x ≡ true → since a n x ≡ true
 since_one [] k n [] lt h = cc
-since_one [] k n (j ∷ x) lt h = subst (λ z. ltn z n ≡ true) (of_eqn k j h) (lt_true k n lt)
+since_one [] k n (j ∷ x) lt h = subst (λ z. ltn z n ≡ true) (of_eqn k j h) (ltn_yes k n lt)
 since_one (i ∷ a) k n [] lt h = cc
 since_one (i ∷ a) k n (j ∷ x) lt h = begun_after (eqn i j) n _ _ (since_one a k n x lt) h
 
@@ -211,7 +182,7 @@ starts_through [] t x h nb = cc
 starts_through (i ∷ p) [] x h nb = cc
 starts_through (i ∷ p) (j ∷ t) [] h nb = refl
 starts_through (i ∷ p) (j ∷ t) (k ∷ x) h nb = starts_split (eqn i j) (starts p t) h (λ e f.
-    let alike : i ≡ j = eqn_same i j e in
+    let alike : i ≡ j = eqn_is i j e in
     subst (λ z. cond (eqn z k) (starts t x) false ≡ false) alike
     (both_false (eqn i k) (starts p x) (starts t x) (λ nb. starts_through p t x f nb) nb))
 
@@ -220,7 +191,7 @@ not_eqn k j l h e = by (eqn j l) refl
   where
     by : (b : Bool) → eqn j l ≡ b → eqn j l ≡ false
     by false f = f
-    by true f = let s : j ≡ l = eqn_same j l f in let t : k ≡ j = e ∙ sym s in let u : cond (eqn k k) true false ≡
+    by true f = let s : j ≡ l = eqn_is j l f in let t : k ≡ j = e ∙ sym s in let u : cond (eqn k k) true false ≡
         false = subst (λ z. cond (eqn k z) true false ≡ false) (sym t) h in let w = eqn_true k in cc
 
 first_false : (b p : Bool) → b ≡ false → cond b p false ≡ false

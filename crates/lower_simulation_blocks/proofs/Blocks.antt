@@ -18,6 +18,7 @@ use Rattle.lower_code.specs.Scopes.{Scope as Names}
 use Rattle.lower_code.specs.declared.arounds.Around.{Around as Where}
 use Rattle.lower_code.specs.Lowering as low
 use Rattle.lower_code.specs.Lowering.{piece, is_defer_shape, any_defer, scope_stated, scope_behind, around_stated, bind}
+use Rattle.lower_code.proofs.Scopes.{binder_longer}
 use Rattle.lower_simulation.proofs.Steps.{over}
 use Rattle.lower_simulation.proofs.Claims.{Way, Setting, Ends, Ctx, Around, at, Good, Target, on, pushed, Shown, plainly, named_by, Here}
 use Rattle.lower_simulation.proofs.Claims.{Above, Tasks, same_around}
@@ -28,7 +29,7 @@ use Rattle.lower_simulation.proofs.Widening.{from_leads, plain_leads, holding_al
 use Rattle.lower_simulation.proofs.Forms.{Static, start_leads, at_leads, EvLeads}
 use Rattle.lower_simulation.proofs.Contexts.{deferring, deferring_static, handled}
 use Rattle.lower_simulation.proofs.Leaving.{leave_none}
-use Rattle.lower_simulation_blocks.proofs.Definitions.{longer_bound, shown_static, shown_good, bind_leads}
+use Rattle.lower_simulation_blocks.proofs.Definitions.{shown_static, shown_good, bind_leads}
 
 -- whether a statement defers, or one of those behind it
 abbrev pub defers_or : Statement → Bool → Bool
@@ -190,7 +191,7 @@ module _ (z : Setting) (differ : ℕ → ℕ → Bool) (top : ℕ) where
       (λ w M i n' fw le lM o v y ls g. bind_leads z c b ss _ m M y v _ (λ x. x) (λ h. refl) r.1 sc g (λ env u ls bs hi g.
       holding_leads z c env bs.more [] _
       (hc (scope_stated (defines b) ss) a m e out w M i n' (holding_all c env bs.more []) o (with_state y u) ls st v hl i2
-      (shown_static (longer_bound b ss) sc bs) fw (trans le lt) lM ab (shown_good c bs g))))
+      (shown_static (binder_longer b ss) sc bs) fw (trans le lt) lM ab (shown_good c bs g))))
   stated_leads (defers d) b cs hd hc ss a s m e out w M j n c o y ls st hl i i2 sc fw lt lM ab g =
       let k = hl refl in
       let le = k.there in

@@ -10,7 +10,7 @@ use Rattle.verse_meaning_state.specs.State.{State}
 use Rattle.verse_meaning_state.specs.Effects.{still}
 use Rattle.verse_meaning.specs.Residuals.{Env}
 use Rattle.verse_meaning.specs.Outcomes.{World, with_state, Outcome, value, told, attempted}
-use Rattle.verse_meaning.specs.Evaluating.{ev, statements, Statement, plain, defines, defers, generates, statement_of}
+use Rattle.verse_meaning.specs.Evaluating.{ev, statements, statement_of}
 use Rattle.verse_meaning.specs.Runs.{deeper}
 use Rattle.verse_code_machine.specs.Frames.{fits, free}
 use Rattle.lower_code.specs.Pieces.{Spot, Maker, next, past, one, placed, either, ◌then◌}
@@ -19,6 +19,7 @@ use Rattle.lower_code.specs.declared.arounds.Around.{Around as Where}
 use Rattle.lower_code.specs.Arounds.{enclosed}
 use Rattle.lower_code.specs.Lowering as low
 use Rattle.lower_code.specs.Lowering.{piece, scope_stated, scope_behind}
+use Rattle.lower_code.proofs.Scopes.{stated_longer}
 use Rattle.lower_simulation.proofs.Claims.{Way, Setting, Ctx, Around, at, Good, on, Shows, Above}
 use Rattle.lower_simulation.proofs.Going.{trans, le_self}
 use Rattle.lower_simulation.proofs.Leading.{LeadsTo, does_leads, open_leads, value_here, told_leads, still_calm}
@@ -27,19 +28,12 @@ use Rattle.lower_simulation.proofs.Widening.{holding_all, holding_leads, jump_le
 use Rattle.lower_simulation.proofs.Forms.{Static, op_leads, EvLeads}
 use Rattle.lower_simulation.proofs.Contexts.{trying, trying_static}
 use Rattle.lower_simulation_blocks.proofs.Failing.{try_leads, commit_leads}
-use Rattle.lower_simulation_blocks.proofs.Definitions.{longer_bound, shown_static, shown_good}
+use Rattle.lower_simulation_blocks.proofs.Definitions.{shown_static, shown_good}
 use Rattle.lower_simulation_blocks.proofs.Blocks.{ConditionsLead}
-
--- statements give names
-longer_by : (q : Statement) (ss : Names) → length ss ≤ length (scope_stated q ss)
-longer_by plain ss = le_self
-longer_by (defines b) ss = longer_bound b ss
-longer_by (defers d) ss = le_self
-longer_by (generates g) ss = le_self
 
 longer : (cs : Trees) (ss : Names) → length ss ≤ length (scope_behind cs ss)
 longer no_trees ss = le_self
-longer (more_trees a cs) ss = trans (longer_by (statement_of a) ss) (longer cs (scope_stated (statement_of a) ss))
+longer (more_trees a cs) ss = trans (stated_longer (statement_of a) ss) (longer cs (scope_stated (statement_of a) ss))
 
 module _ (z : Setting) (differ : ℕ → ℕ → Bool) (top : ℕ) where
   -- Try L; conditions; what follows them in the failure context, up to its Commit and behind it; Jump M; L: the other; M is behind it

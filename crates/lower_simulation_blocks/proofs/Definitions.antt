@@ -5,6 +5,7 @@ use Rattle.std.specs.Prelude.{if◌then◌else◌, nat_le, option_and_then, slic
 use Rattle.verse_base.specs.declared.places.Place.{Place}
 use Rattle.verse_base.specs.declared.refusals.Kind.{Kind}
 use Rattle.verse_base.specs.declared.refusals.Kind.TheVariants as error_kind
+use Rattle.verse_base.proofs.Facts.{get_last}
 use Rattle.verse_tree.specs.Tree.{Bytes, Tree, tree}
 use Rattle.verse_tree.specs.Tree as t
 use Rattle.verse_code.specs.declared.operations.Op.TheVariants as op
@@ -39,25 +40,15 @@ use Rattle.lower_simulation.proofs.Standing.{Stands, op_stands, then_stand, plac
 use Rattle.lower_simulation.proofs.Widening.{holding_all}
 use Rattle.lower_simulation.proofs.Forms.{Static, EvLeads}
 
-slice_last : {A : Type 0} (xs : List A) (x : A) → slice_get (xs ++ x ∷ []) (length xs) ≡ Some x
-slice_last [] x = refl
-slice_last (u ∷ xs) x = slice_last xs x
-
 -- the cell that was made holds its value
 slot_here : (v : Val) (old : Store) (k : CellKind) → slot_of (with_cell old (record { kind = k; slots = v ∷ [] })) (length old) 0 ≡ Some v
 slot_here v old k = ap (λ (x : Option Cell). option_and_then (λ (c : Cell). slice_get c.slots 0) x)
-    (slice_last old (record { kind = k; slots = v ∷ [] }))
+    (get_last old (record { kind = k; slots = v ∷ [] }))
 
 -- all are from n on
 abbrev pub High : ℕ → Locals → Type 0
 High n [] = Unit {0}
 High n (x ∷ ks) = (n ≤ x.0) × High n ks
-
--- a definition gives a name more
-pub longer_bound : (b : Binder) (ss : Names) → length ss ≤ length (with_binder b ss)
-longer_bound no_name ss = le_self
-longer_bound (a_constant x) ss = omega arith
-longer_bound (a_variable x pl) ss = omega arith
 
 -- where more names are shown
 pub shown_static : {top : ℕ} {c : Ctx} {ss us : Names} {out : Way} {a : Where} {e : Env} {ls : List Val} → length ss ≤ length us →

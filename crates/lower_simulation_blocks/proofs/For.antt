@@ -27,6 +27,7 @@ use Rattle.lower_code.specs.declared.arounds.Around.{Around as Where}
 use Rattle.lower_code.specs.Arounds.{up, enclosed}
 use Rattle.lower_code.specs.Lowering as low
 use Rattle.lower_code.specs.Lowering.{piece, bind, with_binder, with_generator, taking}
+use Rattle.lower_code.proofs.Scopes.{binder_longer}
 use Rattle.lower_simulation.proofs.Claims.{Way, Setting, Ends, Ctx, Around, at, Good, Target, on, pushed, spread, laid, keeping, paired}
 use Rattle.lower_simulation.proofs.Claims.{Binds, Locals, Holds, Low, Above, same_around}
 use Rattle.lower_simulation.proofs.Steps.{does, over}
@@ -39,7 +40,7 @@ use Rattle.lower_simulation.proofs.Widening.{holding_all, holding_leads, from_le
 use Rattle.lower_simulation.proofs.Forms.{Static, on_one, end_leads, EvLeads}
 use Rattle.lower_simulation.proofs.Contexts.{trying, trying_static}
 use Rattle.lower_simulation_blocks.proofs.Failing.{attempts_more, attempt_by, commit_leads, quiet_leads}
-use Rattle.lower_simulation_blocks.proofs.Definitions.{High, longer_bound, shown_static, shown_good, bind_leads}
+use Rattle.lower_simulation_blocks.proofs.Definitions.{High, shown_static, shown_good, bind_leads}
 use Rattle.lower_simulation_blocks.proofs.Blocks.{InnerLeads}
 use Rattle.lower_simulation_blocks.proofs.Domains.{Domain}
 use Rattle.lower_simulation_blocks.proofs.Takes.{stored, takes_leads}
@@ -481,7 +482,7 @@ module _ (z : Setting) (differ : ℕ → ℕ → Bool) (top : ℕ) where
         (λ env u ls bs hi gd. does_leads z drop.is (open_leads z _ drop.fit
         (holding_leads z c env bs.more [] _
         (hc us (next m2) e out w M j k (holding_all c env bs.more []) o y0 u ls st so_far v a0 e2 r3.1 (omega (arith, lo, x1, x2))
-        (shown_static (longer_bound q ss) sc bs) (let p = longer_bound q ss in omega (arith, rl, p)) rs fw (trans le lt) (trans le lM) ab
+        (shown_static (binder_longer q ss) sc bs) (let p = binder_longer q ss in omega (arith, rl, p)) rs fw (trans le lt) (trans le lM) ab
         (high_other (length ss) bs.more c.held rl hi o1) o2 (shown_good d bs gd))))))
         (λ u ls gd. missed_leads (with_state y0 u) so_far e2 gd)
     clause_by (generates q) x cs hx hc ss s e out w M j n c o y0 u ls st so_far last a0 e2 i lo sc rl rs fw lt lM ab o1 o2 g =

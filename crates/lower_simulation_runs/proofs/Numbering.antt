@@ -4,7 +4,9 @@ use Rattle.std.proofs.Common.{sym, ap, ◌∙◌, subst, append_assoc}
 use Rattle.std.proofs.Common.{arith}
 use Rattle.std.specs.Prelude.{slice_get, ◌==◌}
 use Rattle.std.proofs.lemmas.Bool.{eq-eqb, eqb-true}
-use Rattle.std.proofs.lemmas.List.{length-map}
+use Rattle.std.proofs.lemmas.List.{length-map, map-append}
+use Rattle.std.proofs.lemmas.Option.{same_Some}
+use Rattle.verse_base.proofs.Facts.{get_first, get_mapped, mapped_get}
 use Rattle.verse_tree.specs.Tree.{Bytes, Tree}
 use Rattle.verse_tree.specs.ItemTree.{FieldTree, FunTree, MemberTree, field, method, ClassTree, ItemTree, using, enumeration, class}
 use Rattle.verse_tree.specs.ItemTree.{function}
@@ -17,6 +19,7 @@ use Rattle.verse_meaning.specs.Programs.{fields_of}
 use Rattle.verse_meaning.specs.Programs.{fields_from, own_fields, parent_of, class_named, same_name}
 use Rattle.verse_meaning.specs.Programs as programs
 use Rattle.verse_meaning.specs.Forms.{this_name}
+use Rattle.verse_meaning.proofs.Names.{or_cond}
 use Rattle.lower_code.specs.Scopes.{constant_at}
 use Rattle.lower_code.specs.Defaults.{with_default, with_defaults, defaults_in, field_place}
 use Rattle.lower_code.specs.Programs.{Body, body_of, methods_in, bodies_in, default_body, default_bodies}
@@ -25,17 +28,13 @@ use Rattle.lower_simulation_values.proofs.Tables.{Every}
 use Rattle.lower_simulation_runs.specs.Programs.{Defined, a_function, a_method, tree_in, number_in, methods_defined, defined_in, Absent}
 use Rattle.lower_simulation_runs.specs.Programs.{Distinct}
 use Rattle.lower_simulation_runs.specs.Programs.{field_number, NumbersAgree}
-use Rattle.lower_simulation_runs.proofs.Placing.{FunctionsPlaced, ClassPlaced, DefaultPlaced, default_of, bodies, same_some, at_behind}
+use Rattle.lower_simulation_runs.proofs.Placing.{FunctionsPlaced, ClassPlaced, DefaultPlaced, default_of, bodies, at_behind}
 
 -- ---- functions
 
 abbrev body_in : Defined → Body
 body_in (a_function f) = body_of [] f
 body_in (a_method f) = body_of (constant_at this_name ∷ []) f
-
-map_both : {A B : Type 0} (f : A → B) (xs ys : List A) → map f (xs ++ ys) ≡ map f xs ++ map f ys
-map_both f [] ys = refl
-map_both f (x ∷ xs) ys = ap (λ zs. f x ∷ zs) (map_both f xs ys)
 
 methods_are : (ms : List MemberTree) → methods_in ms ≡ map body_in (methods_defined ms)
 methods_are [] = refl
@@ -48,17 +47,13 @@ bodies_are (using u ∷ is) = bodies_are is
 bodies_are (enumeration e ∷ is) = bodies_are is
 bodies_are (class c ∷ is) = ap (λ bs. bs ++ bodies_in is) (methods_are c.members) ∙
     ap (λ bs. map body_in (methods_defined c.members) ++ bs) (bodies_are is) ∙
-    sym (map_both body_in (methods_defined c.members) (defined_in is))
+    sym (map-append body_in (methods_defined c.members) (defined_in is))
 bodies_are (function f ∷ is) = ap (λ bs. body_of [] f ∷ bs) (bodies_are is)
 
 -- the first of a number
 abbrev numbered_in : ℕ → List Defined → Option FunTree
 numbered_in n [] = None
 numbered_in n (d ∷ ds) = cond (number_in d == n) (Some (tree_in d)) (numbered_in n ds)
-
-or_cond : (b : Bool) (f : FunTree) (x y : Option FunTree) → cond b (Some f) (or_else x y) ≡ or_else (cond b (Some f) x) y
-or_cond true f x y = refl
-or_cond false f x y = refl
 
 numbered_both : (n : ℕ) (xs ys : List Defined) → numbered_in n (xs ++ ys) ≡ or_else (numbered_in n xs) (numbered_in n ys)
 numbered_both n [] ys = refl
@@ -81,7 +76,7 @@ numbered_fun n (function f ∷ is) = ap (λ r. cond (f.number == n) (Some f) r) 
 
 absent_at : {A : Type 0} (g : A → ℕ) (n : ℕ) (xs : List A) (i : ℕ) (x : A) → Absent n (map g xs) → slice_get xs i ≡ Some x → n ≡ g x → ⊥
 absent_at g n [] i x h e q = cc
-absent_at g n (y ∷ xs) zero x h e q = h.0 (q ∙ ap g (sym (same_some e)))
+absent_at g n (y ∷ xs) zero x h e q = h.0 (q ∙ ap g (sym (same_Some _ _ e)))
 absent_at g n (y ∷ xs) (suc i) x h e q = absent_at g n xs i x h.1 e q
 
 other : (b : Bool) (n m : ℕ) → (n == m) ≡ b → (n ≡ m → ⊥) → b ≡ false
@@ -91,28 +86,12 @@ other false n m e h = refl
 numbered_at : (ds : List Defined) (i : ℕ) (d : Defined) → Distinct (map number_in ds) → slice_get ds i ≡ Some d →
     numbered_in (number_in d) ds ≡ Some (tree_in d)
 numbered_at [] i d h e = cc
-numbered_at (x ∷ ds) zero d h e = subst (λ x. numbered_in (number_in d) (x ∷ ds) ≡ Some (tree_in d)) (sym (same_some e))
+numbered_at (x ∷ ds) zero d h e = subst (λ x. numbered_in (number_in d) (x ∷ ds) ≡ Some (tree_in d)) (sym (same_Some _ _ e))
     (ap (λ b. cond b (Some (tree_in d)) (numbered_in (number_in d) ds)) (eq-eqb (number_in d) (number_in d) refl))
 numbered_at (x ∷ ds) (suc i) d h e =
     ap (λ b. cond b (Some (tree_in x)) (numbered_in (number_in d) ds))
     (other (number_in x == number_in d) (number_in x) (number_in d) refl (absent_at number_in (number_in x) ds i d h.0 e)) ∙
     numbered_at ds i d h.1 e
-
-map_at : {A B : Type 0} (g : A → B) (xs : List A) (i : ℕ) (x : A) → slice_get xs i ≡ Some x → slice_get (map g xs) i ≡ Some (g x)
-map_at g [] i x e = cc
-map_at g (y ∷ xs) zero x e = ap (λ x. Some (g x)) (same_some e)
-map_at g (y ∷ xs) (suc i) x e = map_at g xs i x e
-
-at_map : {A B : Type 0} (g : A → B) (xs : List A) (i : ℕ) (y : B) → slice_get (map g xs) i ≡ Some y →
-    (x : A) × (slice_get xs i ≡ Some x) × (g x ≡ y)
-at_map g [] i y e = cc
-at_map g (x ∷ xs) zero y e = (x, refl, same_some e)
-at_map g (x ∷ xs) (suc i) y e = at_map g xs i y e
-
-at_first : {A : Type 0} (xs ys : List A) (i : ℕ) (x : A) → slice_get xs i ≡ Some x → slice_get (xs ++ ys) i ≡ Some x
-at_first [] ys i x e = cc
-at_first (y ∷ xs) ys zero x e = e
-at_first (y ∷ xs) ys (suc i) x e = at_first xs ys i x e
 
 -- ---- defaults
 
@@ -279,14 +258,14 @@ module _ (p : Program) (tables : TablesAgree p) (made : NumbersAgree p) where
 
   found : (f : ℕ) (d : Defined) → slice_get (defined_in p.items) f ≡ Some d → fun_at p f ≡ Some (tree_in d)
   found f d h =
-      let r = at_map (λ (f : FunInfo). f.item) p.names.funs f (number_in d)
-      (ap (λ ns. slice_get ns f) made.numbers ∙ map_at number_in (defined_in p.items) f d h) in
+      let r = mapped_get (λ (f : FunInfo). f.item) p.names.funs f (number_in d)
+      (ap (λ ns. slice_get ns f) made.numbers ∙ get_mapped number_in (defined_in p.items) f d h) in
       ap (λ x. fun_of_info p.items x) r.1 ∙ ap (λ n. fun_numbered n p.items) r.2 ∙ numbered_fun (number_in d) p.items ∙
       numbered_at (defined_in p.items) f d made.distinct h
 
   placed : (f : ℕ) (d : Defined) → slice_get (defined_in p.items) f ≡ Some d → slice_get (bodies p) f ≡ Some (body_in d)
-  placed f d h = at_first (bodies_in p.items) (default_bodies (defaults_in p.items)) f (body_in d)
-      (ap (λ bs. slice_get bs f) (bodies_are p.items) ∙ map_at body_in (defined_in p.items) f d h)
+  placed f d h = get_first (bodies_in p.items) (default_bodies (defaults_in p.items)) f (body_in d)
+      (ap (λ bs. slice_get bs f) (bodies_are p.items) ∙ get_mapped body_in (defined_in p.items) f d h)
 
   default_placed : (f : FieldTree) → Covered (defaults_in p.items) f → DefaultPlaced p f
   default_placed f h d e = field_placed f (defaults_in p.items) d (bodies_in p.items) (length p.names.funs) (sym many_functions)
@@ -302,7 +281,7 @@ module _ (p : Program) (tables : TablesAgree p) (made : NumbersAgree p) where
     functions = λ n f fn h e.
         let r = made.functions n f h in
         placed f (a_function r.0) r.1 ∙
-        ap (λ (fn : FunTree). Some (body_of [] fn)) (same_some (sym (found f (a_function r.0) r.1) ∙ e));
+        ap (λ (fn : FunTree). Some (body_of [] fn)) (same_Some _ _ (sym (found f (a_function r.0) r.1) ∙ e));
     methods = λ c m f h. let r = made.methods c m f h in
         record { function = r.0; is = found f (a_method r.0) r.1; placed = placed f (a_method r.0) r.1 };
     classes = λ n c h. class_placed p c (slice_get p.names.classes c) refl (tables.fields c) (tables.refs n c h);

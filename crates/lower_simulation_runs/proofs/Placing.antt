@@ -1,7 +1,8 @@
 -- Where functions, methods and defaults stand among the bodies of a program; and the tables of its code.
 use Rattle.std.proofs.Common.{◌≡◌, ℕ, zero, suc, ◌+◌, List, [], ◌∷◌, ◌++◌, length, map, Option, Some, None, Bool, true, false, cond, refl}
-use Rattle.std.proofs.Common.{sym, ap, ◌∙◌, subst, arith, append_assoc}
+use Rattle.std.proofs.Common.{sym, ap, ◌∙◌, subst, arith, append_assoc, length-append}
 use Rattle.std.specs.Prelude.{slice_get}
+use Rattle.std.proofs.lemmas.Option.{same_Some}
 use Rattle.verse_tree.specs.Tree.{Tree}
 use Rattle.verse_tree.specs.ItemTree.{FieldTree, FunTree, ParamTree, ItemTree, using, enumeration, class, function}
 use Rattle.verse_tree.specs.declared.tables.ClassInfo.{ClassInfo}
@@ -54,16 +55,13 @@ pub record FunctionsPlaced (p : Program) : Type 0 where
   -- each default of such a class stands behind all functions
   pub defaults : (n c : ℕ) → ref_at p n ≡ Some (ref.Class c) → Every (DefaultPlaced p) (fields_of p c)
 
-pub same_some : {A : Type 0} {a c : A} → Some a ≡ Some c → a ≡ c
-same_some e = cc
-
 pub every_map : {A : Type 0} (P Q : A → Type 0) (xs : List A) → ((x : A) → P x → Q x) → Every P xs → Every Q xs
 every_map P Q [] f h = tt
 every_map P Q (x ∷ xs) f h = (f x h.0, every_map P Q xs f h.1)
 
 pub every_at : {A : Type 0} (P : A → Type 0) (xs : List A) (i : ℕ) (x : A) → slice_get xs i ≡ Some x → Every P xs → P x
 every_at P [] i x e h = cc
-every_at P (y ∷ xs) zero x e h = subst P (same_some e) h.0
+every_at P (y ∷ xs) zero x e h = subst P (same_Some _ _ e) h.0
 every_at P (y ∷ xs) (suc i) x e h = every_at P xs i x e h.1
 
 -- ---- Main
@@ -74,10 +72,6 @@ at_behind [] ys y (suc n) h = absurd (omega (arith, h))
 at_behind (x ∷ xs) ys y zero h = absurd (omega (arith, h))
 at_behind (x ∷ xs) ys y (suc n) h = at_behind xs ys y n (omega (arith, h))
 
-both_many : {A : Type 0} (xs ys : List A) → length (xs ++ ys) ≡ length xs + length ys
-both_many [] ys = omega arith
-both_many (x ∷ xs) ys = let h = both_many xs ys in omega (arith, h)
-
 main_placed : (is : List ItemTree) (before behind : List Body) (n : ℕ) (fn : FunTree) → length before ≡ n → main_in is ≡ Some fn →
     slice_get (before ++ (bodies_in is ++ behind)) (main_from n is) ≡ Some (body_of [] fn)
 main_placed [] before behind n fn h e = cc
@@ -85,13 +79,13 @@ main_placed (using u ∷ is) before behind n fn h e = main_placed is before behi
 main_placed (enumeration u ∷ is) before behind n fn h e = main_placed is before behind n fn h e
 main_placed (class c ∷ is) before behind n fn h e =
     let ms : List Body = methods_in c.members in
-    let m = both_many before ms in
+    let m = length-append before ms in
     subst (λ bs. slice_get bs (main_from (n + length ms) is) ≡ Some (body_of [] fn))
     (append_assoc before ms (bodies_in is ++ behind) ∙ ap (λ bs. before ++ bs) (sym (append_assoc ms (bodies_in is) behind)))
     (main_placed is (before ++ ms) behind (n + length ms) fn (omega (arith, m, h)) e)
 main_placed (function f ∷ is) before behind n fn h e = by_name (same_name f.name main_name) _ (main_from (suc n) is) e
     (at_behind before (bodies_in is ++ behind) (body_of [] f) n h) (λ e.
-    let m = both_many before (body_of [] f ∷ []) in
+    let m = length-append before (body_of [] f ∷ []) in
     subst (λ bs. slice_get bs (main_from (suc n) is) ≡ Some (body_of [] fn))
     (append_assoc before (body_of [] f ∷ []) (bodies_in is ++ behind))
     (main_placed is (before ++ (body_of [] f ∷ [])) behind (suc n) fn (omega (arith, m, h)) e))
@@ -99,7 +93,7 @@ main_placed (function f ∷ is) before behind n fn h e = by_name (same_name f.na
     by_name : (t : Bool) (all : List Body) (m : ℕ) {r : Option FunTree} → cond t (Some f) r ≡ Some fn →
         slice_get all n ≡ Some (body_of [] f) → (r ≡ Some fn → slice_get all m ≡ Some (body_of [] fn)) →
         slice_get all (cond t n m) ≡ Some (body_of [] fn)
-    by_name true all m e here later = here ∙ ap (λ (f : FunTree). Some (body_of [] f)) (same_some e)
+    by_name true all m e here later = here ∙ ap (λ (f : FunTree). Some (body_of [] f)) (same_Some _ _ e)
     by_name false all m e here later = later e
 
 pub main_stands : (p : Program) (fn : FunTree) → main_in p.items ≡ Some fn →
@@ -123,7 +117,7 @@ pub record AllStand (z : Setting) (differ : ℕ → ℕ → Bool) (Fit : Tree �
 
 class_at : (ks : List ClassInfo) (c : ℕ) (k : ClassInfo) → slice_get ks c ≡ Some k → slice_get (map class_of ks) c ≡ Some (class_of k)
 class_at [] c k h = cc
-class_at (x ∷ ks) zero k h = ap (λ k. Some (class_of k)) (same_some h)
+class_at (x ∷ ks) zero k h = ap (λ k. Some (class_of k)) (same_Some _ _ h)
 class_at (x ∷ ks) (suc c) k h = class_at ks c k h
 
 func_is : {a c : Func} {r : Option Func} → r ≡ Some a → r ≡ Some c → a ≡ c

@@ -29,6 +29,7 @@ use Rattle.lower_simulation.proofs.Steps.{one, over}
 use Rattle.lower_simulation.proofs.Going.{agrees, trans, le_self, lifted, raise, fresh, gone_then, shifted}
 use Rattle.lower_simulation.proofs.Going.{grown_steps}
 use Rattle.verse_code_machine.specs.Acts.{leaves}
+use Rattle.verse_code_machine.proofs.Acts.{no_handler}
 use Rattle.lower_simulation.proofs.Claims.{left_at}
 use Rattle.lower_simulation.proofs.Forms.{Keepable}
 use Rattle.lower_simulation.proofs.Contexts.{deferring, running}
@@ -39,10 +40,6 @@ use Rattle.lower_simulation.proofs.Paths.{lt_false}
 pub not_free : (hs : List Handler) (x : Note) (xs : List Note) (bl : List Frame) → free hs (x ∷ xs) bl ≡ false
 not_free (h ∷ hs) x xs bl = refl
 not_free [] x xs bl = refl
-
-no_handlers : (hs : List Handler) (ns : List Note) (bl : List Frame) → free hs ns bl ≡ true → hs ≡ []
-no_handlers [] ns bl e = refl
-no_handlers (h ∷ hs) ns bl e = cc
 
 grown_deferring : (P : ScopeStands) (z : Setting) (c : Ctx) (q n' : ℕ) (o' : Around) (b' : Scopes) (f' : Tasks) {n : ℕ} {o : Around}
     {b : Scopes} {f : Tasks} → Grown P z (deferring c q) n' o' b' f' n o b f → Grown P z c n' o' b' f' n o b f
@@ -275,7 +272,7 @@ module _ (z : Setting) (c : Ctx) (d : Tree) (q e n0 : ℕ) (fq : fits c.handlers
           (of_dropped ((deeper z.program M).parts d c.env u) u _ g h) (λ k i eq ki h.
           subst (λ hs. Ends z (Next (machine c.who v0 (stepped k u.state)
           (record { born = c.life.born; defers = c.life.defers; noted = gone ∷ c.life.noted }) ls stk q hs c.below)) g)
-          (no_handlers c.handlers c.life.noted c.below fr)
+          (no_handler c.handlers c.life.noted c.below fr)
           ((bl 0 k i gone stk (trans (less_of eq) (trans lu (trans le lm))) ki (record { world = v0; own = k })
           (with_state u (stepped k u.state)) ls (fresh (slots c) ag
           (record { steps = le_self; low = le_self; apart = apart_beside c.who.path v0 k far }))).go g

@@ -31,7 +31,7 @@ use Rattle.verse_meaning.specs.Evaluating.{on_bool}
 use Rattle.verse_meaning.specs.Resuming.{resume_scope, resume_arms}
 use Rattle.verse_meaning.specs.Runs.{deeper}
 use Rattle.lower_simulation.proofs.Paths.{Each, NotOver, each_map, each_both, each_onto, each_ordered, ordered, ordered_apart, onto_onto}
-use Rattle.lower_simulation.proofs.Paths.{onto_both, starts_longer, starts_parent, same_self, starts_self, eqn_less, eqn_more, eqn_self}
+use Rattle.lower_simulation.proofs.Paths.{onto_both, starts_longer, starts_parent, starts_self}
 use Rattle.lower_simulation.proofs.Paths.{waits_both, without_onto, without_none, gone_onto, gone_none, gone_none_behind}
 use Rattle.lower_simulation.proofs.Claims.{on, Agrees, Setting, Goal, Ends, Here, Ctx, Around, world_of, around, at, in_frame, frame_of}
 use Rattle.lower_simulation.proofs.Claims.{Clear, Young, Beneath, Beside, Strict, Apart, Fine, Keeps, GoesHalt, Clears, Stopped, kids_of}
@@ -44,7 +44,10 @@ use Rattle.lower_simulation.proofs.Going.{stretch_less}
 use Rattle.lower_simulation_tasks.proofs.Besides.{clear_child, clear_other, clear_earlier, young_up, clear_parent, strict_up, clear_less}
 use Rattle.lower_simulation_tasks.proofs.Besides.{woken_over, climbs_over, has_second, left_apart, free_fails}
 use Rattle.verse_tree.specs.Tree as tree
+use Rattle.verse_meaning_state.proofs.Numbers.{eqn_same, eqn_less, eqn_more}
+use Rattle.verse_meaning.proofs.Following.{left_state}
 use Rattle.verse_code_machine.specs.Acts.{groups}
+use Rattle.verse_code_machine.proofs.Paths.{same_self}
 use Rattle.lower_simulation_tasks.proofs.Roles.{part_goes}
 use Rattle.lower_simulation_tasks.proofs.Scopes.{beside_acc}
 
@@ -287,11 +290,6 @@ leave_all_tasks no_arms w = refl
 leave_all_tasks (gave v gs) w = leave_all_tasks gs w
 leave_all_tasks (r.runs s gs) w = leave_all_tasks gs (leave w s)
 
-leave_all_state : (gs : Arms) (w : Scene) → (leave_all gs w).state ≡ w.state
-leave_all_state no_arms w = refl
-leave_all_state (gave v gs) w = leave_all_state gs w
-leave_all_state (r.runs s gs) w = leave_all_state gs (leave w s)
-
 -- the unfinished arms are behind from then on
 legs_left : (j : ℕ) (z : Setting) (c : Ctx) → free c.handlers c.life.noted c.below ≡ true →
     (lo m : ℕ) (n q : ℕ) (pre post : List Task) (up : List Up) (rs : Trees) (w : Scene) {hi : ℕ} {gs : Arms} {ps : List Part}
@@ -425,12 +423,12 @@ settled_goes z c pl p st ls q hi0 lq lb fr ag rush j n M pre post up rs g gs w p
     choose (Some v) e k =
         let x = legs_left j z c fr lo w.state.clock.left n q pre post up rs w lg tn lq lb far in
         subst (λ s. Ends z (resumes (thread c.who (frame_of c ls st p) c.below) v (world (onto ts pre) post up rs) s) g)
-        (leave_all_state gs w)
+        (left_state gs w)
         (k w.state.clock.left (world_of (onto ts pre) post up rs x.0)
         (subst (λ y. Grown (ParkedS z j) z c w.state.clock.left (world_of (onto ts pre) post up rs x.0) (leave_all gs w).behind y n
         (world_of pre post up rs q) w.behind w.tasks) (sym (leave_all_tasks gs w)) x.1.1.1)
         ls (fresh (slots c) ag (subst (λ s. Fine w.state.clock.left c.who.path (world_of (onto ts pre) post up rs x.0) s)
-        (sym (leave_all_state gs w)) (record { steps = le_self; low = trans tl x.1.0; apart = x.1.1.0 }))) tt)
+        (sym (left_state gs w)) (record { steps = le_self; low = trans tl x.1.0; apart = x.1.1.0 }))) tt)
 
 -- a group of a context: it goes on at p on st, with the locals ls; the arms' numbers are below hi0
 module _ (z : Setting) (c : Ctx) (kind : Kind) (pl : Place) (p : ℕ) (st ls : List Val) (q hi0 : ℕ) (lq : hi0 ≤ q)
@@ -538,9 +536,9 @@ module _ (z : Setting) (c : Ctx) (kind : Kind) (pl : Place) (p : ℕ) (st ls : L
   arm_goes j lo n k i rp cp pre vs post rs b f g cs lk rf un lg (ends v x) y = λ eb m rs' pl' fi.
       let ps : List Part = back rp (runs i ∷ cp) in
       let mn : m ≤ n = planted_steps (Unit {0}) (PS j) z m rs' x.tasks pl' in
-      let here1 : is_run i (runs i ∷ cp) ≡ true = subst (λ y. cond y true (is_run i cp) ≡ true) (sym (eqn_self i)) refl in
+      let here1 : is_run i (runs i ∷ cp) ≡ true = subst (λ y. cond y true (is_run i cp) ≡ true) (sym (eqn_same i)) refl in
       let here2 : with_did i v (runs i ∷ cp) ≡ did v ∷ cp = subst (λ y. cond y (did v ∷ cp) (runs i ∷ with_did i v cp) ≡ did v ∷ cp)
-      (sym (eqn_self i)) refl in
+      (sym (eqn_same i)) refl in
       subst (λ u. Ends z u g) (sym (legs_climb (PS (suc j)) z c.who lo n i v x.state pre (parent ps ∷ post) rs' lg)) (
       subst (λ u. Ends z (cond u (joined i v (group kind pl ps) (parent ps) (onto vs pre) post rs' x.state)
       (climbs c.who.path i v (parent ps ∷ onto vs pre) post rs' x.state)) g) (sym (same_self c.who.path)) (

@@ -1,11 +1,12 @@
 -- A task scope: what is behind it stands beside the rest of it, and is cancelled at its end.
-use Rattle.std.proofs.Common.{◌≡◌, ℕ, suc, ◌≤◌, ◌<◌, List, [], ◌∷◌, ◌++◌, Option, Some, None, Bool, true, false, cond, refl, sym, ap, ◌∙◌}
+use Rattle.std.proofs.Common.{◌≡◌, ℕ, suc, ◌≤◌, ◌<◌, List, [], ◌∷◌, ◌++◌, Bool, true, false, cond, refl, sym, ap, ◌∙◌}
 use Rattle.std.proofs.Common.{subst, arith, append_assoc, append-nil}
 use Rattle.verse_value.specs.Val.{Val}
 use Rattle.verse_value.specs.declared.runs.Ending.TheVariants as ending
 use Rattle.verse_code.specs.declared.operations.Op.TheVariants as oper
-use Rattle.verse_meaning_state.specs.State.{State, with_result}
+use Rattle.verse_meaning_state.specs.State.{State}
 use Rattle.verse_meaning_state.specs.Waits.{Wait, has}
+use Rattle.verse_meaning_state.proofs.Keeping.{result_left}
 use Rattle.verse_code_machine.specs.Tasks.{Frame, Who, Task, After, Up, Trees, World, Step, Next, Turn, machine, life_from, child_named}
 use Rattle.verse_code_machine.specs.Tasks.{onto, among, waits_of, starts, since}
 use Rattle.verse_code_machine.specs.Frames.{failing, free}
@@ -205,10 +206,6 @@ finished_tasks : (q : Role) (v : Val) (w : Scene) → (finished q v w).tasks ≡
 finished_tasks part v w = refl
 finished_tasks body v w = refl
 finished_tasks (root e) v w = refl
-
-result_left : (e : Option ℕ) (v : Val) (s : State) → (with_result e v s).clock.left ≡ s.clock.left
-result_left None v s = refl
-result_left (Some k) v s = refl
 
 finished_left : (q : Role) (v : Val) (w : Scene) → (finished q v w).state.clock.left ≡ w.state.clock.left
 finished_left part v w = refl

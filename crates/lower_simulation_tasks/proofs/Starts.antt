@@ -13,7 +13,7 @@ use Rattle.verse_meaning.specs.Residuals.{leaf, Scopes, and_then}
 use Rattle.verse_meaning.specs.Outcomes.{World as Scene, suspended, branch_started, task_started, if_there, told_plain, TaskOutcome, ends}
 use Rattle.verse_meaning.specs.Outcomes.{lost, stops, sleeps}
 use Rattle.verse_meaning.specs.Runs.{deeper}
-use Rattle.lower_simulation.proofs.Paths.{onto_onto, starts_parent, same_self, starts_self}
+use Rattle.lower_simulation.proofs.Paths.{onto_onto, starts_parent, starts_self}
 use Rattle.lower_simulation.proofs.Claims.{on, Agrees, Setting, Goal, Ends, Ctx, Around, world_of, around, frame_of, Beside, Apart, Tasks}
 use Rattle.lower_simulation.proofs.Claims.{ScopeStands, RestAt, Grown, same_around, left_around, forked_around, Planted, GoesTask, ParkedR}
 use Rattle.lower_simulation.proofs.Claims.{ParkedS, Goes, slots}
@@ -22,6 +22,7 @@ use Rattle.lower_simulation.proofs.Going.{trans, weak, le_self, fresh, clears_no
 use Rattle.lower_simulation_tasks.proofs.Besides.{left_apart}
 use Rattle.verse_code_machine.specs.Acts.{awaits}
 use Rattle.verse_meaning.specs.Forms.{task_awaited}
+use Rattle.verse_code_machine.proofs.Paths.{same_self}
 
 module _ (z : Setting) (c : Ctx) (p : ℕ) (st ls : List Val) (q : ℕ) (fr : free c.handlers c.life.noted c.below ≡ true)
     (ag : Agrees (slots c) ls) where

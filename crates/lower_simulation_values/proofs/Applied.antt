@@ -1,5 +1,5 @@
 -- Operands, and the form that is applied to them.
-use Rattle.std.proofs.Common.{◌≡◌, ℕ, zero, suc, ◌+◌, ◌≤◌, List, [], ◌∷◌, ◌++◌, length, Bool, true, refl, sym, subst, arith}
+use Rattle.std.proofs.Common.{◌≡◌, ℕ, zero, suc, ◌≤◌, List, [], ◌∷◌, ◌++◌, length, Bool, true, refl, sym, subst, arith}
 use Rattle.verse_tree.specs.Tree.{Tree, Trees, more_trees}
 use Rattle.verse_code.specs.declared.operations.Op.TheVariants as op
 use Rattle.verse_value.specs.Val.{Val}
@@ -16,6 +16,7 @@ use Rattle.lower_code.specs.declared.arounds.Around.{Around as Where}
 use Rattle.lower_code.specs.Arounds.{up}
 use Rattle.lower_code.specs.Lowering as low
 use Rattle.lower_code.specs.Lowering.{piece, how_many}
+use Rattle.lower_code.proofs.Standing.{later_is}
 use Rattle.lower_simulation.proofs.Claims.{Way, Setting, Ctx, Around, at, Good, on, Above}
 use Rattle.lower_simulation.proofs.Going.{trans}
 use Rattle.lower_simulation.proofs.Standing.{Stands, then_stand, op_stands}
@@ -23,10 +24,6 @@ use Rattle.lower_simulation.proofs.Leading.{LeadsTo, does_leads, open_leads, is_
 use Rattle.lower_simulation.proofs.Forms.{Static, stacked, EvLeads, All_lead, IsPlain, args_leads}
 use Rattle.lower_simulation_values.proofs.Operators.{args_stand}
 use Rattle.lower_simulation_values.proofs.Names.{stuck_leads}
-
-later_is : (n a : ℕ) → later n a ≡ n + a
-later_is zero a = omega arith
-later_is (suc n) a = omega (arith, later_is n (suc a))
 
 later_none : (n : ℕ) → later n 0 ≡ n
 later_none n = omega (arith, later_is n 0)

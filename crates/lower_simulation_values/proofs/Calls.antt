@@ -20,6 +20,7 @@ use Rattle.verse_value.specs.Operations.{modulo_of, item_of, at_of, floor_of, ce
 use Rattle.verse_meaning_state.specs.State.{State, with_line}
 use Rattle.verse_meaning_state.specs.Waits.{eqn}
 use Rattle.verse_meaning_state.specs.Effects.{still, line_printed, text_printed, printed_by, class_of}
+use Rattle.verse_meaning_state.proofs.Numbers.{eqn_is}
 use Rattle.verse_meaning.specs.Programs.{fun_at, method_at, method_in}
 use Rattle.verse_meaning.specs.Residuals as form
 use Rattle.verse_meaning.specs.Residuals.{Env, Form, Scopes}
@@ -46,12 +47,6 @@ use Rattle.lower_simulation_values.proofs.Names.{stuck_leads}
 use Rattle.lower_simulation_values.proofs.Applied.{Applied, Done, by_one, by_two, dropping_done}
 use Rattle.lower_simulation_values.proofs.Tables.{Is_function, Is_method, Tables, CallsLead}
 use Rattle.lower_simulation_values.proofs.Callees.{Misfit, unknown, other_many, calls_wrong}
-
-eqn_is : (a b : ℕ) → eqn a b ≡ true → a ≡ b
-eqn_is zero zero e = refl
-eqn_is zero (suc b) e = cc
-eqn_is (suc a) zero e = cc
-eqn_is (suc a) (suc b) e = ap suc (eqn_is a b e)
 
 eqn_not : (a b : ℕ) → eqn a b ≡ false → a ≡ b → ⊥
 eqn_not zero zero e h = cc

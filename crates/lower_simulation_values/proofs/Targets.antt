@@ -1,7 +1,7 @@
 -- What `set` writes to: the cell, and the indices that lead from it.
 use Rattle.std.proofs.Common.{◌≡◌, ℕ, zero, suc, ◌+◌, List, [], ◌∷◌, ◌++◌, length, Option, Some, Bool, true, false, refl, sym, ap}
 use Rattle.std.proofs.Common.{◌∙◌, subst}
-use Rattle.std.proofs.Common.{arith, append_assoc}
+use Rattle.std.proofs.Common.{arith, append_assoc, length-append}
 use Rattle.verse_base.specs.declared.places.Place.{Place}
 use Rattle.verse_tree.specs.Tree.{Bytes, Tree, tree, Shape, Trees, no_trees, more_trees}
 use Rattle.verse_tree.specs.Tree as t
@@ -102,14 +102,6 @@ trees_many : (ts : Trees) → length (trees_list ts) ≡ how_many ts
 trees_many no_trees = refl
 trees_many (more_trees x ts) = ap suc (trees_many ts)
 
-length_more : {A : Type 0} (xs ys : List A) → length (xs ++ ys) ≡ length xs + length ys
-length_more [] ys = omega arith
-length_more (x ∷ xs) ys = let h = length_more xs ys in let n : ℕ = length xs in let m : ℕ = length ys in let k : ℕ = length (xs ++ ys) in
-    suc_in n m k h
-  where
-    suc_in : (n m k : ℕ) → k ≡ n + m → suc k ≡ suc n + m
-    suc_in n m k h = omega (arith, h)
-
 pub has_same : {b : Tree} {r : Root} (p : Rooted b r) (ss : Names) (z : Setting) (differ : ℕ → ℕ → Bool) →
     has_base z.program differ b (base_for r) ss ≡ root_has r ss
 has_same at_variable ss z differ = refl
@@ -124,7 +116,7 @@ list_many at_self = refl
 list_many at_object = refl
 list_many at_none = refl
 list_many (at_index {b = b} {ts} {r} p) =
-    length_more (target_list b) (trees_list ts) ∙ both r (length (target_list b)) (length (trees_list ts)) (target_operands b)
+    length-append (target_list b) (trees_list ts) ∙ both r (length (target_list b)) (length (trees_list ts)) (target_operands b)
     (how_many ts)
     (list_many p) (trees_many ts)
   where

@@ -2,7 +2,7 @@
 -- keep that.
 use Rattle.std.proofs.Common.{◌≡◌, ℕ, zero, suc, ◌+◌, ◌-◌, ◌<◌, ◌≤◌, List, [], ◌∷◌, ◌++◌, map, length, Bool, true, false}
 use Rattle.std.proofs.Common.{Option, Some, None, refl, sym, ap, ◌∙◌, arith, subst, ◌⊎◌, inl, inr, true≢false}
-use Rattle.std.proofs.lemmas.Option.{none-some}
+use Rattle.std.proofs.lemmas.Option.{none-some, same_Some}
 use Rattle.verse_base.specs.declared.places.Place.{Place}
 use Rattle.verse_tree.specs.Tree.{Bytes}
 use Rattle.verse_code.specs.declared.operations.Op.{Op}
@@ -15,7 +15,7 @@ use Rattle.lower_code.specs.Pieces.{arms_at, arms_spot, closed, drops, deepest, 
 use Rattle.lower_code.specs.Lowering.{grouped}
 use Rattle.lower_code.specs.Programs.{item_op}
 use Rattle.lower_code.proofs.Standing.{behind_more, behind_closed}
-use Rattle.lower_bounds.proofs.Bodies.{some_is}
+use Rattle.lower_code.proofs.Depths.{arms_shallow}
 use Rattle.lower_sound.specs.Laws.{IsArm, GroupAt, IsBehind, GroupOf, ArmsStand}
 
 -- how many arms are to come behind an operation, before which n were; none where it may not stand there
@@ -65,9 +65,9 @@ data Comes (n m : ℕ) (op : Op) : Type 0 where
 
 comes : (n m : ℕ) (op : Op) → arms_behind n op ≡ Some m → Comes n m op
 comes zero m (o.Arm l) e = elim (none-some m e) [ ]
-comes zero m (o.Group kind k pl) e = begun kind pl (ap (λ x. o.Group kind x pl) (some_is e))
-comes zero m op e = no_more (sym (some_is e))
-comes (suc n) m (o.Arm l) e = one_less (ap suc (some_is e))
+comes zero m (o.Group kind k pl) e = begun kind pl (ap (λ x. o.Group kind x pl) (same_Some _ _ e))
+comes zero m op e = no_more (sym (same_Some _ _ e))
+comes (suc n) m (o.Arm l) e = one_less (ap suc (same_Some _ _ e))
 comes (suc n) m op e = elim (none-some m e) [ ]
 
 comes_after : (n m : ℕ) (i : Item) → arms_after n i ≡ Some m → Comes n m (item_op i)
@@ -87,7 +87,7 @@ group_arms None is h j m i g b = elim h [ ]
 group_arms (Some n) [] h j m i g b = elim (none-some _ g.there) [ ]
 group_arms (Some n) (x ∷ is) h j m zero g b = absurd (omega (arith, b.0))
 group_arms (Some n) (x ∷ is) h zero m (suc i) g b =
-    arms_there m is (group_comes n x is g.kind m g.place (some_is g.there) h) i (omega (arith, b.1))
+    arms_there m is (group_comes n x is g.kind m g.place (same_Some _ _ g.there) h) i (omega (arith, b.1))
 group_arms (Some n) (x ∷ is) h (suc j) m (suc i) g b = group_arms (arms_after n x) is h j m i (record {
   kind = g.kind;
   place = g.place;
@@ -106,7 +106,7 @@ further op ops i g = record {
 arm_group : (n : ℕ) (is : List Item) → Armed (Some n) is → (i : ℕ) → IsArm (map item_op is) i →
     (i < n) ⊎ GroupOf (map item_op is) i
 arm_group n [] h i a = elim (none-some _ a.1) [ ]
-arm_group n (x ∷ is) h zero a = inl (arm_comes n x is a.0 (some_is a.1) h)
+arm_group n (x ∷ is) h zero a = inl (arm_comes n x is a.0 (same_Some _ _ a.1) h)
 arm_group n (x ∷ is) h (suc i) a = by (arms_after n x) refl h (λ m g. arm_group m is g i a)
   where
     two : (m : ℕ) → Comes n m (item_op x) → (i < m) ⊎ GroupOf (map item_op is) i → (suc i < n) ⊎ GroupOf
@@ -260,11 +260,11 @@ ahead_arms (o.Arm m) l e = elim (none-some l e) [ ]
 ahead_arms op l e = refl
 
 ahead_leads : (free : Free) (op : Op) (l : ℕ) → ahead_label op ≡ Some l → free l ≡ true → OpLeads free op
-ahead_leads free (o.Jump m) l e h = subst (λ i. free i ≡ true) (sym (some_is e)) h
-ahead_leads free (o.Same m) l e h = subst (λ i. free i ≡ true) (sym (some_is e)) h
-ahead_leads free (o.Try m) l e h = subst (λ i. free i ≡ true) (sym (some_is e)) h
-ahead_leads free (o.Branch m) l e h = subst (λ i. free i ≡ true) (sym (some_is e)) h
-ahead_leads free (o.Defer m) l e h = subst (λ i. free i ≡ true) (sym (some_is e)) h
+ahead_leads free (o.Jump m) l e h = subst (λ i. free i ≡ true) (sym (same_Some _ _ e)) h
+ahead_leads free (o.Same m) l e h = subst (λ i. free i ≡ true) (sym (same_Some _ _ e)) h
+ahead_leads free (o.Try m) l e h = subst (λ i. free i ≡ true) (sym (same_Some _ _ e)) h
+ahead_leads free (o.Branch m) l e h = subst (λ i. free i ≡ true) (sym (same_Some _ _ e)) h
+ahead_leads free (o.Defer m) l e h = subst (λ i. free i ≡ true) (sym (same_Some _ _ e)) h
 ahead_leads free (o.Again m) l e h = elim (none-some l e) [ ]
 ahead_leads free (o.Take d v m) l e h = elim (none-some l e) [ ]
 ahead_leads free (o.Arm m) l e h = elim (none-some l e) [ ]
@@ -538,10 +538,6 @@ behind_next : (ls : List ℕ) (a : ℕ) → behind ls (suc a) ≡ suc (behind ls
 behind_next [] a = refl
 behind_next (l ∷ ls) a = behind_next ls (suc a)
 
-deepest_arms : (ls : List ℕ) (is : List Item) → deepest (arms_at ls is) ≡ deepest is
-deepest_arms [] is = refl
-deepest_arms (l ∷ ls) is = deepest_arms ls is
-
 module _ (free : Free) where
   tells_arms : (ls : List ℕ) (is : List Item) (a : ℕ) → Tells free (Some (length ls)) (arms_at ls is) a →
       Tells free (Some 0) is (behind ls a)
@@ -581,7 +577,7 @@ groups kind m pl begins arms many x = record {
         leads_arms free out ls (jump ∷ (arms e).items) (x.entered e free own last) (
           last,
           x.whole.leads e free out own last
-              (λ i le. exits i (omega (arith, le, deepest_arms ls (jump ∷ (arms e).items)))),
+              (λ i le. exits i (omega (arith, le, arms_shallow ls (jump ∷ (arms e).items)))),
         ),
       );
 }

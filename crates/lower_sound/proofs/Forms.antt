@@ -148,10 +148,10 @@ module _ (p : Program) (differ : ℕ → ℕ → Bool) (f : Found) (known : Fine
         both (orderly b (behind_type w b u) a xs sc z h.0 g l) (binds p differ f (a_variable y pl) _)
     shape_orderly (t.Shape.assignment y b c) n pl v u a xs sc z h g l =
         let place = gives_told p f a xs h.2 in
-        both (target_orderly b (left b c u) (base_of p b) a xs sc z h.0 g l)
+        both (target_orderly b (left b c u) (base_of p b) a xs sc z h.0.0 g l)
         (both (orderly c (right b c u) a xs sc (up (raised (target_operands b) z)) h.1 g
         (leaves_up (leaves_raised (target_operands b) l)))
-        (is_so (has_base p differ b (base_of p b) sc) (target_there p differ f a xs sc g b h.0 place.2)
+        (is_so (has_base p differ b (base_of p b) sc) (target_there p differ f a xs sc g b h.0.0 place.2)
         (numbered pl _ (λ m. stores _ _ _ (just _ refl)))))
     shape_orderly (t.Shape.returned b) n pl v u a xs sc z h g l =
         let leave = gives_told p f a xs h.1 in both (orderly b u a xs sc z h.0 g l) (returns a z leave.0 l leave.1)
@@ -241,7 +241,7 @@ module _ (p : Program) (differ : ℕ → ℕ → Bool) (f : Found) (known : Fine
         (λ x i k. both (object_orderly b first a xs sc z k.0 g l) (both (args_orderly ts rest a xs sc
         (up z) k.1 g (leaves_up l))
         (object_finish p differ f x (how_many ts) i)))
-        (λ x i k. both (orderly b first a xs sc z k.0 g l) (both (args_orderly ts rest a xs sc (up z) k.1 g
+        (λ x i k. both (orderly b first a xs sc z k.0.0 g l) (both (args_orderly ts rest a xs sc (up z) k.1 g
         (leaves_up l))
         (index_finish p differ f x (how_many ts) i)))
         (λ x i k. both (quotient_orderly ts rest a xs sc z n x k g l) (quotient_finish p differ f x i))
@@ -262,7 +262,7 @@ module _ (p : Program) (differ : ℕ → ℕ → Bool) (f : Found) (known : Fine
         (at_place pl (o.Tuple (how_many ts)) (λ m. refl))
     shape_orderly (t.Shape.array ts) n pl v u a xs sc z h g l = both (args_orderly ts u a xs sc z h.0 g l)
         (at_place pl (o.Array (how_many ts)) (λ m. refl))
-    shape_orderly (t.Shape.mapping ps) n pl v u a xs sc z h g l = both (pairs_orderly ps u a xs sc z h.0 g l)
+    shape_orderly (t.Shape.mapping ps) n pl v u a xs sc z h g l = both (pairs_orderly ps u a xs sc z h.0.0 g l)
         (at_place pl (o.Map (pairs_in ps)) (λ m. refl))
     shape_orderly (t.Shape.instance y gs) n pl v u a xs sc z h g l =
         makes p differ f (class_ref p (ref_at p n)) h.0 pl gs (length sc) h.3.taken (f.slots h.0) h.1

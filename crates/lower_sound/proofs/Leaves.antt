@@ -3,7 +3,7 @@ use Rattle.std.proofs.Common.{◌≡◌, ℕ, zero, suc, nat_eq, nat_lt, List, [
 use Rattle.std.proofs.Common.{cond, Option, Some, None}
 use Rattle.std.proofs.Common.{refl, sym, ap, ◌∙◌, arith, subst, neg_ℤ}
 use Rattle.std.proofs.lemmas.Bool.Decides.{nat_tests}
-use Rattle.std.proofs.lemmas.Option.{none-some}
+use Rattle.std.proofs.lemmas.Option.{none-some, same_Some}
 use Rattle.verse_base.specs.declared.places.Place.{Place}
 use Rattle.verse_tree.specs.Tree.{Bytes, Tree, tree, Shape, Trees, no_trees, more_trees, Givens, no_givens}
 use Rattle.verse_tree.specs.Tree.{more_givens}
@@ -60,7 +60,6 @@ use Rattle.lower_code.specs.Lowering.{given_local, instance_of}
 use Rattle.lower_code.specs.Lowering.{base_code, named_base, member_base, has_base, has_base_shape, form_fits}
 use Rattle.lower_code.specs.Lowering.{takes_params}
 use Rattle.lower_code.specs.Defaults.{default_number}
-use Rattle.lower_bounds.proofs.Bodies.{some_is}
 use Rattle.lower_simulation_runs.specs.Programs.{is_some, has_value_shape, has_value}
 use Rattle.lower_sound.proofs.Armed.{Orderly, both, none, just, at_place, text, keeps, leaves, if_so}
 use Rattle.lower_sound.proofs.Armed.{is_so, before, one_of}
@@ -447,7 +446,7 @@ module _ (p : Program) (differ : ℕ → ℕ → Bool) (f : Found) where
   unfolding instance_of
   makes None c pl gs l qs rs e h k = elim (none-some c e) [ ]
   makes (Some d) c pl gs l qs rs e h k =
-      let same : d ≡ c = some_is e in
+      let same : d ≡ c = same_Some _ _ e in
       both k (both (subst (λ z. Orderly (field_ops p differ (fields_of p z) gs l)) (sym same) (fields_orderly gs l qs
       (fields_of p c) rs h))
       (at_place pl (o.Object d) (λ m. refl)))

@@ -1,5 +1,4 @@
 pub mod Armed
-pub mod Tables
 pub mod Names
 pub mod Counts
 pub mod Leaves

@@ -2,7 +2,7 @@
 use Rattle.std.proofs.Common.{◌≡◌, ℕ, suc, Bool, true, false, cond, List, [], ◌∷◌, ◌++◌, length, Option, Some, None}
 use Rattle.std.proofs.Common.{refl, sym, ◌∙◌, ap}
 use Rattle.std.proofs.Common.{subst, true≢false}
-use Rattle.std.proofs.lemmas.Option.{none-some}
+use Rattle.std.proofs.lemmas.Option.{none-some, same_Some}
 use Rattle.std.specs.Str.{bytes_eq}
 use Rattle.verse_tree.specs.Tree.{Bytes}
 use Rattle.verse_tree.specs.ItemTree.{ParamTree}
@@ -14,6 +14,7 @@ use Rattle.verse_meaning.specs.Programs.{Program, same_name}
 use Rattle.verse_meaning.specs.Residuals.{Binder, no_name, a_constant, a_variable, Generator}
 use Rattle.verse_meaning.specs.Evaluating.{Statement, plain, defines, defers, generates}
 use Rattle.verse_meaning.specs.Forms.{this_name}
+use Rattle.verse_meaning.proofs.Names.{one_test, test_same}
 use Rattle.verse_sound_rules.specs.Found.{Allowed, New}
 use Rattle.verse_sound_rules.specs.Found as rules
 use Rattle.verse_sound_rules.specs.Fine.{defined_behind, generated_behind, stated_behind, on_statement, Defines}
@@ -25,8 +26,7 @@ use Rattle.lower_code.specs.Scopes.{is_fixed, is_varies}
 use Rattle.lower_code.specs.Scopes.{this_found}
 use Rattle.lower_code.specs.Lowering.{with_binder, with_generator, scope_stated}
 use Rattle.lower_code.specs.Programs.{params_scope}
-use Rattle.lower_bounds.proofs.Bodies.{some_is}
-use Rattle.lower_sound.proofs.Tables.{one_test, test_same, look_new, look_old}
+use Rattle.verse_sound_rules.proofs.Tables.{look_new, look_old}
 
 abbrev pub is_there : Found → Bool
 is_there (fixed l) = true
@@ -73,7 +73,7 @@ module _ (f : rules.Found) where
       (g : Sees this xs sc) where
     named_new : (x : Bytes) (q : Ref) → bytes_eq x y ≡ true → look x (xs ++ (y, r) ∷ []) ≡ Some q → r ≡ q
     named_new x q same e =
-        some_is (sym (look_new y r xs new.0) ∙ subst (λ z. look z (xs ++ (y, r) ∷ []) ≡ Some q) (test_same x y same) e)
+        same_Some _ _ (sym (look_new y r xs new.0) ∙ subst (λ z. look z (xs ++ (y, r) ∷ []) ≡ Some q) (test_same x y same) e)
 
     still_named : (x : Bytes) (l : Found) (q : Ref) → is_there l ≡ true → look x (xs ++ (y, r) ∷ []) ≡ Some q →
         (b : Bool) →

@@ -1,6 +1,6 @@
 -- The arms of a group: each label is written as its arm begins.
 use Rattle.std.proofs.Common.{◌≡◌, ℕ, zero, suc, ◌+◌, ◌-◌, ◌<◌, List, [], ◌∷◌, ◌++◌, length, map, Bool, refl, sym, ap, ◌∙◌, arith}
-use Rattle.std.proofs.Common.{append_assoc, length-append}
+use Rattle.std.proofs.Common.{append_assoc, length-append, append-nil}
 use Rattle.std.specs.Prelude.{slice_get}
 use Rattle.verse_base.specs.declared.places.Place.{Place}
 use Rattle.verse_tree.specs.Tree.{Trees, no_trees, more_trees}
@@ -11,9 +11,8 @@ use Rattle.lower_code.specs.Pieces.{Spot, Item, sure, Piece, Maker, past, later,
 use Rattle.lower_code.specs.Scopes.{Scope}
 use Rattle.lower_code.specs.Lowering.{task_arms, arm_spots, how_many, grouped}
 use Rattle.lower_expr.specs.Building.{Built, pushed, with_place, patched, patched_ops, ended_here, raw, opened, spot, with_piece, made}
-use Rattle.lower_code.proofs.Standing.{later_is}
-use Rattle.lower_expr.proofs.Laws.{map_more, list_behind, behind_is, length_raw, with_joined, spot_past, patch_seam, made_nothing}
-use Rattle.lower_expr.proofs.Laws.{nothing_behind}
+use Rattle.lower_code.proofs.Standing.{later_is, behind_is}
+use Rattle.lower_expr.proofs.Laws.{map_more, list_behind, length_raw, with_joined, spot_past, patch_seam, made_nothing}
 use Rattle.lower_expr.proofs.Laws.{made_then, made_one, made_branch}
 use Rattle.lower_task.specs.Tasks.{arms_open, group_begun, branch_ended, arm, arms_lowered}
 
@@ -45,7 +44,7 @@ made_at f b s e = ap (λ s. with_piece b (f s)) e
 
 arms_are_zeros : (n : ℕ) (b : Built) → arms_open n b ≡ record b { ops = b.ops ++ zeros n }
 unfolding pushed
-arms_are_zeros zero b = ap (λ k. record b { ops = k }) (sym (nothing_behind b.ops))
+arms_are_zeros zero b = ap (λ k. record b { ops = k }) (sym (append-nil b.ops))
 arms_are_zeros (suc n) b = arms_are_zeros n (record b { ops = b.ops ++ o.Arm 0 ∷ [] }) ∙
     ap (λ k. record b { ops = k }) (append_assoc b.ops (o.Arm 0 ∷ []) (zeros n))
 
@@ -76,7 +75,7 @@ module _ (p : Program) (k : ℕ → ℕ → Bool) (sc : Scope) where
   unfolding ended_here patched
   arms_law no_trees xs cs at b e h = sym (
       ap (λ (w : Built). record w { ops = xs ++ (o.Jump 0 ∷ (cs ++ [])) }) (nothing_piece b)
-      ∙ ap (λ c. record b { ops = xs ++ (o.Jump 0 ∷ c) }) (nothing_behind cs) ∙ ap (λ c. record b { ops = c }) (sym h))
+      ∙ ap (λ c. record b { ops = xs ++ (o.Jump 0 ∷ c) }) (append-nil cs) ∙ ap (λ c. record b { ops = c }) (sym h))
   arms_law (more_trees t ts) xs cs at b e h =
       let l : ℕ = length b.ops in
       let zs : List Op = zeros (how_many ts) ++ (o.Jump 0 ∷ cs) in

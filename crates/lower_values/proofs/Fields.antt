@@ -1,5 +1,5 @@
 -- The fields of an instance: those that are given, and all in their order.
-use Rattle.std.proofs.Common.{◌≡◌, ℕ, ◌+◌, ◌<◌, ◌≤◌, List, [], ◌∷◌, length, map, drop, get_or, refl, sym, ap, ◌∙◌}
+use Rattle.std.proofs.Common.{◌≡◌, ℕ, ◌+◌, ◌<◌, ◌≤◌, List, ◌∷◌, length, get_or, sym, ap, ◌∙◌}
 use Rattle.std.proofs.Common.{Option, Some, None}
 use denote.Ref.{Bor}
 use Rattle.verse_base.specs.declared.places.Place.{Place}
@@ -18,27 +18,12 @@ use Rattle.lower_lookup.specs.Types.{differ_of}
 use Rattle.verse_code.specs.declared.operations.Op.TheVariants as o
 use Rattle.lower_expr.specs.Building.{Built, made}
 use Rattle.lower_expr.specs.Endings.{numbered}
-use Rattle.lower_expr.specs.Locals.{cut_to}
 use Rattle.lower_expr.proofs.Laws.{made_then, made_nothing}
-use Rattle.lower_expr.proofs.Scoping.{cut_back}
 use Rattle.lower_declared.specs.Views.{field_now}
-use Rattle.lower_parts.specs.Parts.{Grown, tree_code}
+use Rattle.lower_parts.specs.Parts.{tree_code}
 use Rattle.lower_parts.proofs.Lists.{seen_next, seen_none}
+use Rattle.lower_parts.proofs.Facts.{left_fields, left_givens}
 use Rattle.lower_values.specs.Parts.{given_code}
-
--- a scope that has grown, by one slot more, and cut back
-pub grown_none : (sc : Scope) → Grown sc sc
-grown_none sc = ([], refl)
-
-pub grown_more : (sc here new : Scope) → Grown sc here → new ≡ hidden ∷ here → Grown sc new
-grown_more sc here new g e = (hidden ∷ g.0, e ∙ ap (λ k. hidden ∷ k) g.1)
-
-pub grown_cut : (sc new : Scope) → Grown sc new → cut_to (length sc) new ≡ sc
-grown_cut sc new g = ap (cut_to (length sc)) g.1 ∙ cut_back g.0 sc
-
--- from the i-th part on
-abbrev pub left_givens : List Given → ℕ → Givens
-left_givens xs i = givens (map given_of (drop i xs))
 
 module _ (p : Program) (xs : List Given) (i : ℕ) (a : Around) where
   abbrev code : Givens → Scope → Maker
@@ -60,10 +45,6 @@ module _ (p : Program) (xs : List Given) (i : ℕ) (a : Around) where
   pub givens_done : (sc : Scope) (b all : Built) → length xs ≤ i → made (code (left_givens xs i) sc) b ≡ all → b ≡ all
   givens_done sc b all h is =
       sym (ap (λ gs. made (code (givens gs) sc) b) (seen_none given_of xs i h) ∙ made_nothing b) ∙ is
-
--- from the i-th field on
-abbrev pub left_fields : List (Bor Field) → ℕ → List FieldTree
-left_fields xs i = map field_now (drop i xs)
 
 module _ (p : Program) (xs : List (Bor Field)) (i : ℕ) (gs : Givens) (l : ℕ) where
   abbrev ops : List FieldTree → Maker

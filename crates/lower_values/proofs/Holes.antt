@@ -1,6 +1,6 @@
 -- Pieces of texts with holes.
-use Rattle.std.proofs.Common.{◌≡◌, ◌≢◌, ℕ, suc, ◌+◌, ◌<◌, ◌≤◌, List, [], ◌∷◌, length, map, drop, get_or, Bool, true}
-use Rattle.std.proofs.Common.{false, refl, sym, ap, ◌∙◌, arith}
+use Rattle.std.proofs.Common.{◌≡◌, ℕ, suc, ◌+◌, ◌<◌, ◌≤◌, List, length, get_or, Bool, true}
+use Rattle.std.proofs.Common.{false, sym, ap, ◌∙◌, arith}
 use Rattle.verse_base.specs.declared.places.Place.{Place}
 use Rattle.verse_tree.specs.Tree as t
 use Rattle.verse_tree.specs.Tree.{Bytes, Holes}
@@ -20,18 +20,8 @@ use Rattle.verse_code.specs.declared.operations.Op.TheVariants as o
 use Rattle.lower_expr.proofs.Laws.{made_then, made_nothing}
 use Rattle.lower_parts.specs.Parts.{tree_code, form_code}
 use Rattle.lower_parts.proofs.Lists.{seen_next, seen_none}
+use Rattle.lower_parts.proofs.Facts.{left_holes}
 use Rattle.lower_values.specs.Parts.{hole_code}
-
-pub some_text : (bs : Bytes) → bs ≢ [] → is_text bs ≡ true
-some_text [] h = absurd (h refl)
-some_text (b ∷ bs) h = refl
-
-pub none_text : (bs : Bytes) → bs ≡ [] → is_text bs ≡ false
-none_text bs h = ap is_text h
-
--- from the i-th hole on
-abbrev pub left_holes : List Hole → ℕ → Holes
-left_holes xs i = holes (map hole_of (drop i xs))
 
 module _ (p : Program) (xs : List Hole) (i : ℕ) (sc : Scope) where
   abbrev code : Holes → Around → Maker

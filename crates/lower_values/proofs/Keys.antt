@@ -1,5 +1,5 @@
 -- The keys of a map with their values, one pair after the other.
-use Rattle.std.proofs.Common.{◌≡◌, ℕ, suc, ◌+◌, ◌<◌, ◌≤◌, List, [], ◌∷◌, length, map, drop, get_or, refl, sym, ap, ◌∙◌}
+use Rattle.std.proofs.Common.{◌≡◌, ℕ, suc, ◌+◌, ◌<◌, ◌≤◌, List, [], ◌∷◌, length, map, get_or, refl, sym, ap, ◌∙◌}
 use Rattle.verse_base.specs.declared.places.Place.{Place}
 use Rattle.verse_tree.specs.Tree as t
 use Rattle.verse_tree.specs.View.{pair_of, pairs}
@@ -18,16 +18,13 @@ use Rattle.lower_expr.specs.Endings.{numbered}
 use Rattle.lower_expr.proofs.Laws.{made_then, made_nothing}
 use Rattle.lower_parts.specs.Parts.{form_code, tree_code}
 use Rattle.lower_parts.proofs.Lists.{seen_next, seen_none}
+use Rattle.lower_parts.proofs.Facts.{left_pairs}
 use Rattle.lower_values.specs.Parts.{pair_code}
 
 -- as many pairs as there are
 pub pairs_counted : (xs : List Pair) → pairs_in (pairs (map pair_of xs)) ≡ length xs
 pairs_counted [] = refl
 pairs_counted (x ∷ xs) = ap suc (pairs_counted xs)
-
--- from the i-th pair on
-abbrev pub left_pairs : List Pair → ℕ → t.Pairs
-left_pairs xs i = pairs (map pair_of (drop i xs))
 
 module _ (p : Program) (xs : List Pair) (i : ℕ) (sc : Scope) where
   abbrev code : t.Pairs → Around → Maker

@@ -46,7 +46,7 @@ pub leaving_none : (n : ℕ) (a : Around) (b : Noted) → a.defers ≤ n → wal
 leaving_none n a b h = walked_when_false (nat_lt n a.defers) (leave n) b (le-ltb n a.defers h)
 
 -- a definition of a variable, and what `set` writes where its value stays, by their steps
-three_steps : (f g h : Walk) (b x y r : Noted) → x ≡ walked f b → y ≡ walked g x → r ≡ walked h y →
+pub three_steps : (f g h : Walk) (b x y r : Noted) → x ≡ walked f b → y ≡ walked g x → r ≡ walked h y →
     r ≡ walked (f then g then h) b
 three_steps f g h b x y r d e is =
     is ∙ ap (walked h) (e ∙ ap (walked g) d) ∙ sym (walked_then f (g then h) b ∙ walked_then g h (walked f b))

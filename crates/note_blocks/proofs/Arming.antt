@@ -12,8 +12,6 @@ use Rattle.verse_meaning.specs.Evaluating.{none_left, number_of}
 use Rattle.lower_code.specs.Scopes.{Scope, hidden}
 use Rattle.lower_code.specs.declared.arounds.Around.{Around}
 use Rattle.lower_lookup.specs.Types.{differ_of}
-use Rattle.lower_expr.specs.Locals.{cut_to}
-use Rattle.lower_expr.proofs.Scoping.{cut_back}
 use Rattle.lower_blocks.specs.Arms.{arm_parts, arm_parts_shape, is_any_tree}
 use Rattle.lower_notes.specs.States.{gets, puts}
 use Rattle.lower_notes.specs.Stretches.{Walk, one, ends, over, either_same, ◌then◌}
@@ -261,11 +259,3 @@ case_by p e subject ts us sc here there a l n b c d r h x s u y f m g is =
     ∙ ap (λ k. walked (arms_walk p ts k (hidden ∷ sc) a) (walked (one (puts k q)) (walked (tree_walk p e sc a) b))) h
     ∙ sym (walked_then (tree_walk p e sc a) (one (puts (length sc) q) then arms_walk p ts (length sc) (hidden ∷ sc) a) b
     ∙ walked_then (one (puts (length sc) q)) (arms_walk p ts (length sc) (hidden ∷ sc) a) (walked (tree_walk p e sc a) b))
-
-pub case_cut : (l : ℕ) (sc here there behind r : Scope) → l ≡ length sc → here ≡ sc → there ≡ hidden ∷ here →
-    behind ≡ there →
-    r ≡ cut_to l behind →
-    r ≡ sc
-case_cut l sc here there behind r h s u k is =
-    is ∙ ap (λ n. cut_to n behind) h ∙ ap (cut_to (length sc)) (k ∙ u ∙ ap (λ k. hidden ∷ k) s)
-    ∙ cut_back (hidden ∷ []) sc

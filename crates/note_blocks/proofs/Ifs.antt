@@ -14,9 +14,10 @@ use Rattle.note_sorts.specs.Tabled.{found_of}
 use Rattle.note_stretches.specs.Noted.{Noted, met, walked}
 use Rattle.note_stretches.specs.Forms.{tried_begun, other_begun}
 use Rattle.note_stretches.proofs.Laws.{walked_either_try}
+use Rattle.note_applied.proofs.Steps.{three_steps}
 use Rattle.note_parts.specs.Parts.{tree_walk, form_walk, no_place}
 use Rattle.note_blocks.specs.Walks.{statements_walk, taken_walk}
-use Rattle.note_blocks.proofs.Steps.{three_steps, four_steps}
+use Rattle.note_blocks.proofs.Steps.{four_steps}
 
 -- an attempt, and another part where it fails
 pub either_by : (f g : Walk) (x : Option State) (b c d r : Noted) → x ≡ b.exit → c ≡ tried_begun b → d ≡ walked f c →

@@ -1,22 +1,15 @@
 -- The clauses of a `for`, one by one.
-use Rattle.std.proofs.Common.{◌≡◌, ℕ, ◌+◌, ◌<◌, ◌≤◌, List, [], ◌∷◌, ◌++◌, length, map, get_or, Bool, true, false, cond, sym}
-use Rattle.std.proofs.Common.{Option, ap, ◌∙◌, append_assoc}
+use Rattle.std.proofs.Common.{◌≡◌, ℕ, ◌+◌, ◌<◌, ◌≤◌, List, [], ◌∷◌, length, map, get_or, Bool, true, false, cond, sym}
+use Rattle.std.proofs.Common.{Option, ap, ◌∙◌}
 use Rattle.verse_tree.specs.Tree.{Tree, Trees}
 use Rattle.verse_tree.specs.Tree as t
 use Rattle.verse_tree.specs.View.{tree_of}
 use Rattle.verse_tree.specs.declared.exprs.Expr.{Expr}
 use Rattle.verse_tree.specs.declared.programs.Program.{Program}
-use Rattle.verse_meaning.specs.Residuals.{Binder, no_name, a_constant, a_variable, Generator, of_elements, of_entries}
-use Rattle.verse_meaning.specs.Residuals.{of_range}
-use Rattle.verse_meaning.specs.Evaluating.{Statement, plain, defines, defers, generates}
-use Rattle.lower_code.specs.Scopes.{Scope, constant_at, variable_at, hidden}
+use Rattle.lower_code.specs.Scopes.{Scope, hidden}
 use Rattle.lower_code.specs.Arounds.{enclosed}
 use Rattle.lower_code.specs.declared.arounds.Around.{Around}
-use Rattle.lower_expr.specs.Locals.{cut_to}
-use Rattle.lower_expr.proofs.Scoping.{cut_back}
-use Rattle.lower_parts.specs.Parts.{Grown}
 use Rattle.lower_parts.proofs.Operands.{left, left_next, left_none}
-use Rattle.lower_blocks.specs.Levels.{scope_claused}
 use Rattle.lower_notes.specs.States.{State, gives, puts}
 use Rattle.lower_notes.specs.Stretches.{Walk, one, last, attempt, ◌then◌}
 use Rattle.note_states.specs.View.{standing_of}
@@ -67,39 +60,6 @@ module _ (p : Program) (xs : List Expr) (i : ℕ) (a : Around) (all : (Scope →
       turns_closed ts (walked (rest sc) b) ≡ all rest
   levels_done sc ts b h is rest =
       sym (ap (λ k. turns_closed ts (walked (levels_walk p k sc a rest) b)) (left_none xs i h)) ∙ is rest
-
-binder_extends : (x : Binder) (old sc there : Scope) → there ≡ scope_claused (defines x) sc → Grown old sc →
-    Grown old there
-binder_extends no_name old sc there h e = (e.0, h ∙ e.1)
-binder_extends (a_constant x) old sc there h e = (constant_at x ∷ e.0, h ∙ ap (λ k. constant_at x ∷ k) e.1)
-binder_extends (a_variable x pl) old sc there h e = (variable_at x ∷ e.0, h ∙ ap (λ k. variable_at x ∷ k) e.1)
-
-generator_extends : (g : Generator) (old sc there : Scope) → there ≡ scope_claused (generates g) sc → Grown old sc →
-    Grown old there
-generator_extends (of_elements x) old sc there h e =
-    (hidden ∷ constant_at x ∷ hidden ∷ hidden ∷ e.0, h ∙ ap (λ k. hidden ∷ constant_at x ∷ hidden ∷ hidden ∷ k) e.1)
-generator_extends (of_entries n x) old sc there h e = (
-  constant_at n ∷ constant_at x ∷ hidden ∷ hidden ∷ e.0,
-  h ∙ ap (λ k. constant_at n ∷ constant_at x ∷ hidden ∷ hidden ∷ k) e.1,
-)
-generator_extends (of_range x) old sc there h e =
-    (hidden ∷ constant_at x ∷ hidden ∷ hidden ∷ e.0, h ∙ ap (λ k. hidden ∷ constant_at x ∷ hidden ∷ hidden ∷ k) e.1)
-
-pub extends_more : (s : Statement) (old sc there : Scope) → there ≡ scope_claused s sc → Grown old sc → Grown old there
-extends_more plain old sc there h e = (e.0, h ∙ e.1)
-extends_more (defines x) old sc there h e = binder_extends x old sc there h e
-extends_more (defers d) old sc there h e = (e.0, h ∙ e.1)
-extends_more (generates g) old sc there h e = generator_extends g old sc there h e
-
-hidden_cut : (added sc : Scope) → cut_to (length sc) (added ++ hidden ∷ sc) ≡ sc
-hidden_cut added sc =
-    ap (cut_to (length sc)) (sym (append_assoc added (hidden ∷ []) sc)) ∙ cut_back (added ++ hidden ∷ []) sc
-
--- the scope behind the clauses is cut back to what it was before the local of the result
-pub cut_levels : (l : ℕ) (sc here there r : Scope) → l ≡ length sc → here ≡ hidden ∷ sc → Grown here there →
-    r ≡ cut_to l there → r ≡ sc
-cut_levels l sc here there r h s e is =
-    is ∙ ap (λ k. cut_to k there) h ∙ ap (cut_to (length sc)) (e.1 ∙ ap (λ k. e.0 ++ k) s) ∙ hidden_cut e.0 sc
 
 pub for_by : (p : Program) (cs ds : Trees) (t body : Tree) (sc here there : Scope) (a around : Around)
     (q : Bool) (ts us vs : List Standing) (b c d r : Noted) → here ≡ hidden ∷ sc → around ≡ enclosed a → ds ≡ cs → body ≡ t →

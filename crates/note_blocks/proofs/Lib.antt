@@ -1,5 +1,4 @@
 mod OpenEnds
-mod Behind
 mod Steps
 mod Inner
 mod RuleSets

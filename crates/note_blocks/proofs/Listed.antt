@@ -6,7 +6,7 @@ use Rattle.verse_tree.specs.declared.programs.Program.{Program}
 use Rattle.verse_meaning.specs.Evaluating.{statement_of}
 use Rattle.verse_sorts.specs.Sorts as s
 use Rattle.lower_code.specs.Scopes.{Scope}
-use Rattle.lower_code.specs.Lowering.{scope_stated, scope_behind, any_defer}
+use Rattle.lower_code.specs.Lowering.{scope_stated, any_defer}
 use Rattle.lower_code.specs.declared.arounds.Around.{Around}
 use Rattle.lower_parts.proofs.Operands.{left, left_next, left_none}
 use Rattle.lower_blocks.specs.Codes.{around_behind}
@@ -45,16 +45,6 @@ module _ (p : Program) (xs : List Expr) (i : ℕ) where
   pub more_done : (sc : Scope) (a : Around) (b all : Noted) → length xs ≤ i →
       walked (more_walk p (left xs i) sc a) b ≡ all → b ≡ all
   more_done sc a b all h is = sym (ap (λ ts. walked (more_walk p ts sc a) b) (left_none xs i h) ∙ walked_nothing b) ∙ is
-
-module _ (xs : List Expr) (i : ℕ) where
-  pub behind_next : (x : Expr) (sc there all : Scope) → i < length xs → x ≡ get_or xs i x →
-      there ≡ scope_stated (statement_of (tree_of x)) sc →
-      scope_behind (left xs i) sc ≡ all → scope_behind (left xs (i + 1)) there ≡ all
-  behind_next x sc there all h e s is =
-      ap (scope_behind (left xs (i + 1))) s ∙ sym (ap (λ ts. scope_behind ts sc) (left_next xs i x h e)) ∙ is
-
-  pub behind_done : (sc all : Scope) → length xs ≤ i → scope_behind (left xs i) sc ≡ all → sc ≡ all
-  behind_done sc all h is = sym (ap (λ ts. scope_behind ts sc) (left_none xs i h)) ∙ is
 
 module _ (p : Program) (sc : Scope) (a : Around) where
   pub no_statements : (xs : List Expr) (b c : Noted) → length xs ≡ 0 → c ≡ walked (one (gives 0 s.unit)) b →

@@ -1,10 +1,9 @@
 -- Forms of two shapes are no arms and no patterns.
-use Rattle.std.proofs.Common.{◌≡◌, ℕ, Option, Some, None, false, refl}
+use Rattle.std.proofs.Common.{◌≡◌, ℕ, Option, Some, None, refl}
 use Rattle.verse_tree.specs.Tree.{Tree, Trees}
 use Rattle.verse_tree.specs.View.{return_shape, if_shape, event_shape, sleep_shape}
 use Rattle.verse_tree.specs.declared.types.TyExpr.{TyExpr}
 use Rattle.verse_tree.specs.declared.programs.Program.{Program}
-use Rattle.lower_blocks.specs.Arms.{is_any_shape, arm_parts_shape}
 use Rattle.lower_notes.specs.Stretches.{ends}
 use Rattle.note_blocks.specs.Arms.{shape_pattern}
 
@@ -24,35 +23,3 @@ module _ (p : Program) where
   pub no_pattern_awaited : (o : Option TyExpr) → shape_pattern p (event_shape o) ≡ ends
   no_pattern_awaited None = refl
   no_pattern_awaited (Some w) = refl
-
-  pub not_any_returned : (o : Option Tree) → is_any_shape p (return_shape o) ≡ false
-  not_any_returned None = refl
-  not_any_returned (Some e) = refl
-
-  pub not_any_chosen : (cs : Trees) (e : Tree) (o : Option Tree) → is_any_shape p (if_shape cs e o) ≡ false
-  not_any_chosen cs e None = refl
-  not_any_chosen cs e (Some f) = refl
-
-  pub not_any_slept : (o : Option ℕ) → is_any_shape p (sleep_shape o) ≡ false
-  not_any_slept None = refl
-  not_any_slept (Some d) = refl
-
-  pub not_any_awaited : (o : Option TyExpr) → is_any_shape p (event_shape o) ≡ false
-  not_any_awaited None = refl
-  not_any_awaited (Some w) = refl
-
-pub no_arm_returned : (o : Option Tree) → arm_parts_shape (return_shape o) ≡ None
-no_arm_returned None = refl
-no_arm_returned (Some e) = refl
-
-pub no_arm_chosen : (cs : Trees) (e : Tree) (o : Option Tree) → arm_parts_shape (if_shape cs e o) ≡ None
-no_arm_chosen cs e None = refl
-no_arm_chosen cs e (Some f) = refl
-
-pub no_arm_slept : (o : Option ℕ) → arm_parts_shape (sleep_shape o) ≡ None
-no_arm_slept None = refl
-no_arm_slept (Some d) = refl
-
-pub no_arm_awaited : (o : Option TyExpr) → arm_parts_shape (event_shape o) ≡ None
-no_arm_awaited None = refl
-no_arm_awaited (Some w) = refl

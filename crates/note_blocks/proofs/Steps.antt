@@ -19,15 +19,12 @@ use Rattle.note_stretches.specs.Forms.{tried_begun, turned}
 use Rattle.note_stretches.proofs.Laws.{walked_then, walked_ahead, walked_attempt}
 use Rattle.note_stretches.proofs.Loops.{walked_looping}
 use Rattle.note_applied.specs.Steps.{varied}
+use Rattle.note_applied.proofs.Steps.{three_steps}
 use Rattle.note_parts.specs.Parts.{tree_walk, form_walk, no_place}
 use Rattle.note_blocks.specs.Walks.{inner_walk, deferred_walk, body_walk}
 
 pub two_steps : (f g : Walk) (b x r : Noted) → x ≡ walked f b → r ≡ walked g x → r ≡ walked (f then g) b
 two_steps f g b x r e is = is ∙ ap (walked g) e ∙ sym (walked_then f g b)
-
-pub three_steps : (f g h : Walk) (b x y r : Noted) → x ≡ walked f b → y ≡ walked g x → r ≡ walked h y →
-    r ≡ walked (f then g then h) b
-three_steps f g h b x y r d e is = two_steps f (g then h) b x r d (two_steps g h x y r e is)
 
 pub four_steps : (f g h i : Walk) (b x y z r : Noted) → x ≡ walked f b → y ≡ walked g x → z ≡ walked h y → r ≡ walked i z →
     r ≡ walked (f then g then h then i) b

@@ -129,7 +129,7 @@ pub fn and<
 }
 
 /// The conditions of an `if`, and the part that is taken where they hold.
-#[tactic(auto, using(crate::proofs::Behind::cut_behind))]
+#[tactic(auto, using(lower_blocks::proofs::Behind::cut_behind))]
 fn if_taken<
     'a,
     F: Fn(

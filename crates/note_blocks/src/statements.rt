@@ -307,7 +307,7 @@ pub fn statements<
 }
 
 /// Statements or conditions, whose names are not seen behind them.
-#[tactic(auto, using(crate::proofs::Behind::cut_behind))]
+#[tactic(auto, using(lower_blocks::proofs::Behind::cut_behind))]
 pub fn own_statements<
     'a,
     F: Fn(

@@ -1,20 +1,12 @@
 -- The parts of what is applied.
-use Rattle.std.proofs.Common.{◌≡◌, List, rules, map, ap, sym, ◌∙◌}
+use Rattle.std.proofs.Common.{◌≡◌, List, map, ap, ◌∙◌}
 use Rattle.verse_tree.specs.Tree.{Tree, Trees}
 use Rattle.verse_tree.specs.View.{tree_of, trees, applied_of}
 use Rattle.verse_tree.specs.declared.exprs.Applied.{Applied, out-Applied}
-use Rattle.verse_tree.specs.declared.exprs.Expr.{Expr, the_lemmas}
+use Rattle.verse_tree.specs.declared.exprs.Expr.{Expr}
+use Rattle.lower_calls.proofs.Halves.{callee_is, args_are}
 use Rattle.lower_notes.specs.Stretches.{Walk}
 use Rattle.note_stretches.specs.Noted.{Noted, walked}
-
-applied_parts : (t : Applied) → applied_of t ≡ (tree_of (out-Applied t).callee, map tree_of (out-Applied t).args)
-applied_parts t = search (rules, the_lemmas)
-
-callee_is : (t : Applied) → tree_of (out-Applied t).callee ≡ (applied_of t).0
-callee_is t = sym (ap (λ q. q.0) (applied_parts t))
-
-args_are : (t : Applied) → map tree_of (out-Applied t).args ≡ (applied_of t).1
-args_are t = sym (ap (λ q. q.1) (applied_parts t))
 
 pub callee_by : (t : Applied) (e : Expr) → e ≡ (out-Applied t).callee → tree_of e ≡ (applied_of t).0
 callee_by t e h = ap tree_of h ∙ callee_is t

@@ -1,5 +1,5 @@
 -- The indices of a target, from the first to the last.
-use Rattle.std.proofs.Common.{◌≡◌, ℕ, zero, suc, ◌+◌, ◌-◌, ◌<◌, ◌≤◌, refl, sym, ap, ◌∙◌, arith}
+use Rattle.std.proofs.Common.{◌≡◌, ℕ, ◌+◌, ◌<◌, ◌≤◌, refl, sym, ap, ◌∙◌, arith}
 use Rattle.verse_tree.specs.Tree.{Tree, tree, Shape}
 use Rattle.verse_tree.specs.Tree as t
 use Rattle.verse_tree.specs.declared.programs.Program.{Program}
@@ -10,22 +10,15 @@ use Rattle.lower_code.specs.declared.arounds.Around.{Around}
 use Rattle.lower_code.specs.Lowering.{target_operands, target_operands_shape}
 use Rattle.lower_lookup.specs.Types.{differ_of}
 use Rattle.lower_calls.specs.Aims.{Aimed, at_name, at_member, at_index, at_other, aimed, aimed_in, levels, levels_in}
-use Rattle.lower_calls.specs.Aims.{before, beneath, under, operands_to}
+use Rattle.lower_calls.specs.Aims.{before, beneath, under}
+use Rattle.lower_calls.proofs.Indices.{operands_at, levels_at, levels_are, levels_under}
+use Rattle.lower_calls.proofs.Indices.{behind_one, one_left}
 use Rattle.lower_notes.specs.Stretches.{◌then◌}
 use Rattle.lower_notes.specs.Noting.{target_shape}
 use Rattle.note_sorts.specs.Tabled.{found_of}
 use Rattle.note_stretches.specs.Noted.{Noted, walked}
 use Rattle.note_stretches.proofs.Laws.{walked_then}
 use Rattle.note_calls.specs.Targets.{bottom_walk, level_walk, target_walk, aim_walk}
-use Rattle.note_calls.proofs.Unders.{under_next}
-
-abbrev levels_at : Aimed → ℕ
-levels_at (at_index b ts) = suc (levels b)
-levels_at other = 0
-
-abbrev operands_at : Aimed → ℕ
-operands_at (at_index b ts) = operands_to (target_operands b) (at_index b ts)
-operands_at other = 0
 
 module _ (p : Program) (base : Base) (sc : Scope) (a : Around) where
   abbrev Aims : Shape → Type 0
@@ -96,28 +89,6 @@ module _ (p : Program) (base : Base) (sc : Scope) (a : Around) where
   walk_at : (b : Tree) → target_walk p b base sc a ≡ aim_walk p (aimed b) base sc a
   walk_at (tree n pl s) = (aims s).0
 
-  operands_are : (b : Tree) → target_operands b ≡ operands_at (aimed b)
-  operands_are (tree n pl s) = (aims s).1
-
-  levels_are : (b : Tree) (m : Aimed) → aimed b ≡ m → levels b ≡ levels_at m
-  levels_are (tree n pl s) m e = (aims s).2 ∙ ap levels_at e
-
-  levels_beneath : (b : Tree) → levels (beneath b) ≡ levels b - 1
-  levels_beneath b = by (aimed b) refl
-    where
-      same : (m : Aimed) → aimed b ≡ m → levels (beneath b) ≡ levels (before m b)
-      same m e = ap (λ m. levels (before m b)) e
-
-      by : (m : Aimed) → aimed b ≡ m → levels (beneath b) ≡ levels b - 1
-      by at_name e = omega (arith, same at_name e, levels_are b at_name e)
-      by (at_member c) e = omega (arith, same (at_member c) e, levels_are b (at_member c) e)
-      by (at_index c ts) e = omega (arith, same (at_index c ts) e, levels_are b (at_index c ts) e)
-      by at_other e = omega (arith, same at_other e, levels_are b at_other e)
-
-  levels_under : (n : ℕ) (b : Tree) → levels (under n b) ≡ levels b - n
-  levels_under zero b = omega arith
-  levels_under (suc n) b = omega (arith, levels_beneath (under n b), levels_under n b)
-
   -- where no index is left
   bottom_is : (b : Tree) → levels b ≡ 0 → target_walk p b base sc a ≡ bottom_walk p (aimed b) base sc a
   bottom_is b h = by (aimed b) refl
@@ -129,17 +100,8 @@ module _ (p : Program) (base : Base) (sc : Scope) (a : Around) where
       by : (m : Aimed) → aimed b ≡ m → target_walk p b base sc a ≡ bottom_walk p (aimed b) base sc a
       by at_name e = same at_name e refl
       by (at_member c) e = same (at_member c) e refl
-      by (at_index c ts) e = absurd (omega (arith, h, levels_are b (at_index c ts) e))
+      by (at_index c ts) e = absurd (omega (arith, h, levels_are p base sc a b (at_index c ts) e))
       by at_other e = same at_other e refl
-
-  no_operands : (b : Tree) → levels b ≡ 0 → target_operands b ≡ 0
-  no_operands b h = by (aimed b) refl
-    where
-      by : (m : Aimed) → aimed b ≡ m → target_operands b ≡ 0
-      by at_name e = operands_are b ∙ ap operands_at e
-      by (at_member c) e = operands_are b ∙ ap operands_at e
-      by (at_index c ts) e = absurd (omega (arith, h, levels_are b (at_index c ts) e))
-      by at_other e = operands_are b ∙ ap operands_at e
 
   -- the last index stands behind what is indexed
   level_is : (b : Tree) → 0 < levels b →
@@ -150,34 +112,19 @@ module _ (p : Program) (base : Base) (sc : Scope) (a : Around) where
       by : (m : Aimed) → aimed b ≡ m →
           target_walk p b base sc a ≡
           target_walk p (beneath b) base sc a then level_walk p (target_operands (beneath b)) (aimed b) sc a
-      by at_name e = absurd (omega (arith, h, levels_are b at_name e))
-      by (at_member c) e = absurd (omega (arith, h, levels_are b (at_member c) e))
+      by at_name e = absurd (omega (arith, h, levels_are p base sc a b at_name e))
+      by (at_member c) e = absurd (omega (arith, h, levels_are p base sc a b (at_member c) e))
       by (at_index c ts) e = walk_at b ∙ ap (λ m. aim_walk p m base sc a) e
           ∙ sym (ap
           (λ m. target_walk p (before m b) base sc a then level_walk p (target_operands (before m b)) m sc a) e)
-      by at_other e = absurd (omega (arith, h, levels_are b at_other e))
-
-  level_operands : (b : Tree) → 0 < levels b → target_operands b ≡ operands_to (target_operands (beneath b)) (aimed b)
-  level_operands b h = by (aimed b) refl
-    where
-      by : (m : Aimed) → aimed b ≡ m → target_operands b ≡ operands_to (target_operands (beneath b)) (aimed b)
-      by at_name e = absurd (omega (arith, h, levels_are b at_name e))
-      by (at_member c) e = absurd (omega (arith, h, levels_are b (at_member c) e))
-      by (at_index c ts) e =
-          operands_are b ∙ ap operands_at e ∙ sym (ap (λ m. operands_to (target_operands (before m b)) m) e)
-      by at_other e = absurd (omega (arith, h, levels_are b at_other e))
+      by at_other e = absurd (omega (arith, h, levels_are p base sc a b at_other e))
 
   pub target_begun : (b part : Tree) (left : ℕ) (x all : Noted) → left ≡ levels b → part ≡ under left b →
       all ≡ walked (bottom_walk p (aimed part) base sc a) x → all ≡ walked (target_walk p (under left b) base sc a) x
   target_begun b part left x all e same is =
-      let none : levels (under left b) ≡ 0 = omega (arith, e, levels_under left b) in
+      let none : levels (under left b) ≡ 0 = omega (arith, e, levels_under p base sc a left b) in
       is ∙ ap (λ c. walked (bottom_walk p (aimed c) base sc a) x) same
       ∙ ap (λ f. walked f x) (sym (bottom_is (under left b) none))
-
-  pub operands_begun : (b : Tree) (left : ℕ) → left ≡ levels b → 0 ≡ target_operands (under left b)
-  operands_begun b left e =
-      let none : levels (under left b) ≡ 0 = omega (arith, e, levels_under left b) in
-      sym (no_operands (under left b) none)
 
   pub target_done : (b : Tree) (left : ℕ) (x all : Noted) → left ≤ 0 →
       all ≡ walked (target_walk p (under left b) base sc a) x →
@@ -186,18 +133,7 @@ module _ (p : Program) (base : Base) (sc : Scope) (a : Around) where
       let none : left ≡ 0 = omega (arith, h) in
       is ∙ ap (λ n. walked (target_walk p (under n b) base sc a) x) none
 
-  pub operands_done : (b : Tree) (left n : ℕ) → left ≤ 0 → n ≡ target_operands (under left b) → n ≡ target_operands b
-  operands_done b left n h is =
-      let none : left ≡ 0 = omega (arith, h) in
-      is ∙ ap (λ n. target_operands (under n b)) none
-
   module _ (b part : Tree) (left next n : ℕ) where
-    behind_one : left ≡ next + 1 → under left b ≡ beneath (under next b)
-    behind_one e = ap (λ n. under n b) e ∙ under_next next b
-
-    one_left : left ≡ next + 1 → left ≤ levels b → 0 < levels (under next b)
-    one_left e h = omega (arith, e, h, levels_under next b)
-
     pub target_next : (here : Scope) (x mid last : Noted) → left ≡ next + 1 → left ≤ levels b →
         part ≡ under next b → here ≡ sc →
         n ≡ target_operands (under left b) → mid ≡ walked (target_walk p (under left b) base sc a) x →
@@ -206,18 +142,9 @@ module _ (p : Program) (base : Base) (sc : Scope) (a : Around) where
         let u : Tree = under next b in
         go ∙ ap (λ c. walked (level_walk p n (aimed c) here a) mid) same
         ∙ ap (λ s. walked (level_walk p n (aimed u) s a) mid) k
-        ∙ ap (λ n. walked (level_walk p n (aimed u) sc a) mid) (count ∙ ap target_operands (behind_one e))
+        ∙ ap (λ n. walked (level_walk p n (aimed u) sc a) mid) (count ∙ ap target_operands (behind_one p base sc a b part left next n e))
         ∙ ap (walked (level_walk p (target_operands (beneath u)) (aimed u) sc a))
-        (is ∙ ap (λ c. walked (target_walk p c base sc a) x) (behind_one e))
+        (is ∙ ap (λ c. walked (target_walk p c base sc a) x) (behind_one p base sc a b part left next n e))
         ∙ sym (walked_then (target_walk p (beneath u) base sc a)
         (level_walk p (target_operands (beneath u)) (aimed u) sc a) x)
-        ∙ ap (λ f. walked f x) (sym (level_is u (one_left e h)))
-
-    pub operands_next : (more : ℕ) → left ≡ next + 1 → left ≤ levels b → part ≡ under next b →
-        n ≡ target_operands (under left b) →
-        more ≡ operands_to n (aimed part) → more ≡ target_operands (under next b)
-    operands_next more e h same count is =
-        let u : Tree = under next b in
-        is ∙ ap (λ c. operands_to n (aimed c)) same
-        ∙ ap (λ n. operands_to n (aimed u)) (count ∙ ap target_operands (behind_one e))
-        ∙ sym (level_operands u (one_left e h))
+        ∙ ap (λ f. walked f x) (sym (level_is u (one_left p base sc a b part left next n e h)))

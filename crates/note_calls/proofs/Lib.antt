@@ -2,7 +2,6 @@ mod Steps
 mod Arms
 mod Halves
 mod Indexed
-mod Unders
 mod Levels
 mod Storing
 mod Objects

@@ -9,11 +9,11 @@ use Rattle.verse_meaning.specs.Evaluating.{callee_of, spawned_callee, of_object}
 use Rattle.lower_code.specs.Scopes.{Scope}
 use Rattle.lower_code.specs.declared.arounds.Around.{Around}
 use Rattle.lower_calls.specs.Views.{object_of}
+use Rattle.lower_calls.proofs.Steps.{spawned_object}
 use Rattle.lower_notes.specs.Stretches.{◌then◌}
 use Rattle.note_stretches.specs.Noted.{Noted, walked}
 use Rattle.note_calls.specs.Calls.{object_walk, behind_walk, member_walk}
 use Rattle.note_calls.proofs.Seen.{object_is}
-use Rattle.note_calls.proofs.Steps.{spawned_object}
 
 module _ (p : Program) (b : Tree) (ts : Trees) (sc : Scope) (a : Around) (f whole : Form) (pl : Place)
     (x all : Noted) where

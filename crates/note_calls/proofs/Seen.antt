@@ -1,19 +1,18 @@
 -- What shapes are as callees, as dividends and as calls that are spawned.
-use Rattle.std.proofs.Common.{◌≡◌, ℕ, zero, suc, Option, Some, None, refl}
+use Rattle.std.proofs.Common.{◌≡◌, ℕ, refl}
 use Rattle.verse_base.specs.declared.places.Place.{Place}
 use Rattle.verse_tree.specs.Tree.{Bytes, Tree, tree, Trees, no_trees, more_trees, Shape}
 use Rattle.verse_tree.specs.Tree as t
-use Rattle.verse_tree.specs.declared.tables.Ref.{Ref}
-use Rattle.verse_tree.specs.declared.tables.Ref.TheVariants as ref
 use Rattle.verse_tree.specs.declared.programs.Program.{Program}
 use Rattle.verse_meaning.specs.Programs.{program_of, ref_at}
 use Rattle.verse_meaning.specs.Residuals.{Form}
-use Rattle.verse_meaning.specs.Evaluating.{callee_of, callee_of_shape, named_callee, builtin, of_object, of_value}
+use Rattle.verse_meaning.specs.Evaluating.{callee_of, callee_of_shape, of_object, of_value}
 use Rattle.lower_code.specs.Scopes.{Scope}
 use Rattle.lower_code.specs.declared.arounds.Around.{Around}
 use Rattle.lower_lookup.specs.Types.{differ_of}
 use Rattle.lower_calls.specs.Views.{place_of, object_of, object_in, chained_in, called_of, called_in}
 use Rattle.lower_calls.specs.Calls.{divided_in}
+use Rattle.lower_calls.proofs.Seen.{no_name}
 use Rattle.lower_notes.specs.Noting.{inner, inner_shape, quotient, quotient_shape, spawned, spawned_shape}
 use Rattle.note_sorts.specs.Tabled.{found_of}
 use Rattle.note_calls.specs.Calls.{object_walk, divided_walk, spawned_walk}
@@ -34,24 +33,6 @@ module _ (p : Program) (n : ℕ) (pl : Place) (sc : Scope) (a : Around) (whole f
 
   by_value : {A : Type 0} → of_value whole ≡ of_object f → A
   by_value e = absurd (cc (e))
-
-  -- no name stands for what has an object
-  no_builtin : {A : Type 0} (b : ℕ) → builtin b pl ≡ of_object f → A
-  no_builtin zero e = absurd (cc (e))
-  no_builtin (suc zero) e = absurd (cc (e))
-  no_builtin (suc (suc zero)) e = absurd (cc (e))
-  no_builtin (suc (suc (suc b))) e = absurd (cc (e))
-
-  no_name : {A : Type 0} (r : Option Ref) → named_callee r whole pl ≡ of_object f → A
-  no_name None e = absurd (cc (e))
-  no_name (Some (ref.Local x)) e = absurd (cc (e))
-  no_name (Some (ref.Key x)) e = absurd (cc (e))
-  no_name (Some (ref.Field c x)) e = absurd (cc (e))
-  no_name (Some (ref.Method c m)) e = absurd (cc (e))
-  no_name (Some (ref.Fun x)) e = absurd (cc (e))
-  no_name (Some (ref.Class c)) e = absurd (cc (e))
-  no_name (Some (ref.Enum x)) e = absurd (cc (e))
-  no_name (Some (ref.Builtin b)) e = no_builtin b e
 
   seen : (s : Shape) → Seen s
   seen (t.Shape.block ts) = (refl, refl, by_value)
@@ -80,7 +61,7 @@ module _ (p : Program) (n : ℕ) (pl : Place) (sc : Scope) (a : Around) (whole f
   seen t.Shape.truth = (refl, refl, by_value)
   seen t.Shape.falsehood = (refl, refl, by_value)
   seen t.Shape.this = (refl, refl, by_value)
-  seen (t.Shape.name x) = (refl, refl, no_name (ref_at (program_of p) n))
+  seen (t.Shape.name x) = (refl, refl, no_name p n pl sc a whole f (ref_at (program_of p) n))
   seen (t.Shape.tuple ts) = (refl, refl, by_value)
   seen (t.Shape.array ts) = (refl, refl, by_value)
   seen (t.Shape.option ts) = (refl, refl, by_value)

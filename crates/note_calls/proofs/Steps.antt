@@ -2,7 +2,7 @@
 use Rattle.std.proofs.Common.{◌≡◌, refl, sym, ap, ◌∙◌, Option, Some, None}
 use Rattle.verse_value.specs.Val.{Val}
 use Rattle.verse_meaning.specs.Residuals.{Form}
-use Rattle.verse_meaning.specs.Evaluating.{Callee, alone, of_object, of_value, of_quotient, no_callee, spawned_callee}
+use Rattle.verse_meaning.specs.Evaluating.{Callee, alone, of_object, of_value, of_quotient, no_callee}
 use Rattle.lower_lookup.specs.Actions.{form_of}
 use Rattle.lower_lookup.specs.Callees.{called}
 use Rattle.lower_lookup.specs.declared.actions.Action.{Action}
@@ -16,12 +16,6 @@ use Rattle.note_stretches.proofs.Laws.{walked_then}
 pub two_steps : (f g h : Walk) (b mid last : Noted) → mid ≡ walked f b → last ≡ walked h mid → h ≡ g →
     last ≡ walked (f then g) b
 two_steps f g h b mid last e k is = k ∙ ap (λ h. walked h mid) is ∙ ap (walked g) e ∙ sym (walked_then f g b)
-
-pub three_steps : (f g h : Walk) (b first second last : Noted) → first ≡ walked f b → second ≡ walked g first →
-    last ≡ walked h second →
-    last ≡ walked (f then g then h) b
-three_steps f g h b first second last d e k =
-    k ∙ ap (walked h) (e ∙ ap (walked g) d) ∙ sym (walked_then f (g then h) b ∙ walked_then g h (walked f b))
 
 pub same_walked : (f g : Walk) (b last : Noted) → last ≡ walked f b → f ≡ g → last ≡ walked g b
 same_walked f g b last e is = e ∙ ap (λ h. walked h b) is
@@ -57,15 +51,6 @@ module _ (g h i j : Form → Walk) (b all : Noted) (c : Callee) where
   pub by_none : no_callee ≡ c → all ≡ walked ends b → all ≡ walked (by_callee c g h i j) b
   unfolding by_callee
   by_none e is = is ∙ ap (λ c. walked (by_callee c g h i j) b) e
-
--- what is spawned with an object has it where it is called
-pub spawned_object : {A : Type 0} (c : Callee) (f : Form) → spawned_callee c ≡ of_object f →
-    ((f : Form) → c ≡ of_object f → A) → A
-spawned_object (alone g) f e go = absurd (cc (e))
-spawned_object (of_object g) f e go = go g refl
-spawned_object (of_value g) f e go = absurd (cc (e))
-spawned_object (of_quotient g) f e go = absurd (cc (e))
-spawned_object no_callee f e go = absurd (cc (e))
 
 -- neither alone nor of an object
 pub by_neither : (g h : Form → Walk) (b all : Noted) (c : Callee) (k : Found) → called k ≡ c →

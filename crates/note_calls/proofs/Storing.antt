@@ -16,9 +16,9 @@ use Rattle.lower_notes.specs.Stretches.{Walk, when_else, ◌then◌}
 use Rattle.lower_notes.specs.Applied.{storing}
 use Rattle.note_sorts.specs.Tabled.{found_of}
 use Rattle.note_stretches.specs.Noted.{Noted, walked}
+use Rattle.note_applied.proofs.Steps.{three_steps}
 use Rattle.note_parts.specs.Parts.{tree_walk, form_walk, no_place}
 use Rattle.note_calls.specs.Targets.{target_walk}
-use Rattle.note_calls.proofs.Steps.{three_steps}
 
 pub next_is : (m n k : ℕ) → m ≡ n + 1 → n ≡ k → m ≡ suc k
 next_is m n k e f = omega (arith, e, f)

@@ -6,7 +6,8 @@ use Rattle.verse_tree.specs.declared.programs.Program.{Program}
 use Rattle.verse_meaning.specs.Programs.{program_of, ref_at}
 use Rattle.verse_meaning.specs.Residuals as form
 use Rattle.verse_meaning.specs.Residuals.{Form}
-use Rattle.verse_meaning.specs.Evaluating.{Callee, callee_of, spawned_callee, member_form, number_of}
+use Rattle.verse_meaning.specs.Evaluating.{Callee, callee_of, spawned_callee, member_form}
+use Rattle.verse_meaning.specs.Evaluating.{number_of}
 use Rattle.lower_notes.specs.Stretches.{Walk, ends, arm, grouped, ◌then◌}
 use Rattle.lower_code.specs.Scopes.{Scope}
 use Rattle.lower_code.specs.declared.arounds.Around.{Around}
@@ -45,7 +46,8 @@ module _ (p : Program) where
       finish f (how_many ts) (form_fits (program_of p) (differ_of p) f (how_many ts) sc)
 
   abbrev pub member_walk : Tree → Trees → Scope → Around → Form → Walk
-  member_walk b ts sc a f = n.inner (program_of p) (found_of p) (differ_of p) b sc a then behind_walk ts sc a f
+  member_walk b ts sc a f = n.inner (program_of p) (found_of p) (differ_of p) b sc a
+      then behind_walk ts sc a f
 
   -- indices into what is of the sort q
   abbrev pub indices_walk : Sort → Trees → Scope → Around → Walk
@@ -60,7 +62,8 @@ module _ (p : Program) where
       finish f (how_many ts) true
 
   abbrev pub quotient_walk : Trees → Scope → Around → Form → Walk
-  quotient_walk ts sc a f = n.quotient (program_of p) (found_of p) (differ_of p) ts sc a then finish f 2 true
+  quotient_walk ts sc a f = n.quotient (program_of p) (found_of p) (differ_of p) ts sc a then finish
+      f 2 true
 
   abbrev pub call_by : Tree → Trees → Scope → Around → Callee → Walk
   call_by b ts sc a c =

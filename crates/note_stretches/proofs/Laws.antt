@@ -1,13 +1,15 @@
 -- What a walk that is put together of others adds to what is noted so far.
-use Rattle.std.proofs.Common.{◌≡◌, ℕ, suc, ◌+◌, ◌<◌, List, [], ◌∷◌, ◌++◌, length, map, max, Bool, true, false, cond}
+use Rattle.std.proofs.Common.{◌≡◌, ℕ, suc, ◌<◌, List, [], ◌∷◌, ◌++◌, length, map, max, Bool, true, false, cond}
 use Rattle.std.proofs.Common.{Option, Some, None, refl, sym, ap, ◌∙◌, arith}
 use Rattle.std.proofs.lemmas.List.{append_assoc, append-nil, map-append, length-append, length-map}
 use Rattle.std.specs.Option.{option_map}
+use Rattle.verse_base.proofs.Facts.{length_more}
 use Rattle.verse_meaning.specs.Programs.{or_else}
 use Rattle.verse_tree.specs.Tree.{Bytes}
 use Rattle.verse_sorts.specs.Sorts as s
 use Rattle.verse_sorts.specs.Sorts.{Sort}
 use Rattle.lower_code.specs.Pieces.{behind}
+use Rattle.lower_code.proofs.Standing.{behind_is}
 use Rattle.lower_notes.specs.States.{State, Change, gives, pops, tried}
 use Rattle.lower_notes.specs.Stretches.{Stretch, Walk, straight, nothing, one, same, last, ends, leave_loop, when, deeper}
 use Rattle.lower_notes.specs.Stretches.{joined}
@@ -32,14 +34,6 @@ most_of n = omega arith
 pub same_is : (x : Option State) → option_map same x ≡ x
 same_is None = refl
 same_is (Some x) = refl
-
--- Places.
-pub behind_is : {A : Type 0} (xs : List A) (n : ℕ) → behind xs n ≡ n + length xs
-behind_is [] n = omega arith
-behind_is (x ∷ xs) n = omega (arith, behind_is xs (suc n))
-
-pub one_more : {A : Type 0} (xs : List A) (x : A) → length (xs ++ x ∷ []) ≡ suc (length xs)
-one_more xs x = omega (arith, length-append xs (x ∷ []))
 
 pub spots_behind : (b : Noted) (xs : List (Option State)) → length (b.spots ++ map seen xs) ≡ behind xs (length b.spots)
 spots_behind b xs = omega (arith, length-append b.spots (map seen xs), length-map xs seen, behind_is xs (length b.spots))
@@ -149,7 +143,7 @@ with_ahead f x y b =
       exit = y;
       deep = max b.deep (f n x).deep;
       left = deeper b.left (f n x).left;
-    })) (sym (one_more b.spots (seen b.exit)))
+    })) (sym (length_more b.spots (seen b.exit)))
 
 pub walked_ahead : (into past : ℕ → Change) (f : Walk) (b : Noted) → walked (ahead into past f) b ≡
     resumed (option_map (past (length b.spots)) b.exit) (walked f (changed (into (length b.spots)) (marked b)))
@@ -186,11 +180,11 @@ with_either f g x z b =
     let before = b.spots ++ seen b.exit ∷ [] in
     let first = before ++ map seen p.states in
     let behind_it = first ++ seen p.exit ∷ [] in
-    let one_on : length before ≡ suc here = one_more b.spots (seen b.exit) in
+    let one_on : length before ≡ suc here = length_more b.spots (seen b.exit) in
     let there : length behind_it ≡ at =
     omega (
       arith,
-      one_more first (seen p.exit),
+      length_more first (seen p.exit),
       length-append before (map seen p.states),
       length-map p.states seen,
       behind_is p.states

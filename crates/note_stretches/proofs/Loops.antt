@@ -1,9 +1,11 @@
 -- Loops, generators, arms and groups.
-use Rattle.std.proofs.Common.{◌≡◌, ℕ, zero, suc, ◌+◌, List, [], ◌∷◌, ◌++◌, length, map, max, Option, None, refl, sym, ap, ◌∙◌, arith}
+use Rattle.std.proofs.Common.{◌≡◌, ℕ, zero, suc, List, [], ◌∷◌, ◌++◌, length, map, max, Option, None, refl, sym, ap, ◌∙◌, arith}
 use Rattle.std.proofs.lemmas.List.{append_assoc, map-append, length-append}
 use Rattle.std.specs.Option.{option_map}
+use Rattle.verse_base.proofs.Facts.{length_more}
 use Rattle.verse_sorts.specs.Sorts.{Sort}
 use Rattle.lower_code.specs.Pieces.{later}
+use Rattle.lower_code.proofs.Standing.{later_is}
 use Rattle.lower_notes.specs.States.{State, Change, gives, pops, untried, in_arm}
 use Rattle.lower_notes.specs.Stretches.{Walk, one, same, last, ends, deeper, outs, out_with, closing, looping, turning}
 use Rattle.lower_notes.specs.Stretches.{arm}
@@ -13,7 +15,7 @@ use Rattle.note_stretches.specs.Noted.{loop_ended}
 use Rattle.note_stretches.specs.Noted.{outs_seen, outs_left}
 use Rattle.note_stretches.specs.Forms.{turned, turn_state, turn_begun, group_state}
 use Rattle.note_stretches.proofs.Steps.{deeper_none}
-use Rattle.note_stretches.proofs.Laws.{most_of, same_is, one_more, changed_same, walked_then, walked_one, walked_last, walked_ends}
+use Rattle.note_stretches.proofs.Laws.{most_of, same_is, changed_same, walked_then, walked_one, walked_last, walked_ends}
 use Rattle.note_stretches.proofs.Laws.{walked_ahead}
 use Rattle.note_stretches.proofs.Laws.{walked_attempt, walked_beginning}
 
@@ -109,10 +111,6 @@ unseen_many : (n : ℕ) → length (nothing_seen n) ≡ n
 unseen_many zero = refl
 unseen_many (suc n) = ap suc (unseen_many n)
 
-later_is : (n a : ℕ) → later n a ≡ n + a
-later_is zero a = omega arith
-later_is (suc n) a = omega (arith, later_is n (suc a))
-
 pub walked_grouped : (m : ℕ) (a : Sort) (f : Walk) (b : Noted) → walked (grouped m a f) b ≡
     resumed (group_state m a b).exit (walked f (resumed b.exit (group_state m a b)))
 unfolding walked resumed marked changed skipped
@@ -127,10 +125,10 @@ walked_grouped m a f b =
     let there : length all ≡ at =
     omega (
       arith,
-      one_more arms (seen y),
+      length_more arms (seen y),
       length-append before (nothing_seen m),
       unseen_many m,
-      one_more b.spots (seen b.exit),
+      length_more b.spots (seen b.exit),
       later_is m (suc (suc here)),
     ) in
     let e1 : b.spots ++ seen b.exit ∷ map seen (unreached m (y ∷ p.states)) ≡ all ++ map seen p.states =

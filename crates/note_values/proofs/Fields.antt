@@ -1,5 +1,5 @@
 -- The fields of an instance: those that are given, and all in their order.
-use Rattle.std.proofs.Common.{◌≡◌, ℕ, ◌+◌, ◌<◌, ◌≤◌, List, [], ◌∷◌, length, map, drop, get_or, refl, sym, ap, ◌∙◌, Option, Some, None}
+use Rattle.std.proofs.Common.{◌≡◌, ℕ, ◌+◌, ◌<◌, ◌≤◌, List, ◌∷◌, length, get_or, sym, ap, ◌∙◌, Option, Some, None}
 use denote.Ref.{Bor}
 use Rattle.verse_tree.specs.Tree.{Givens}
 use Rattle.verse_tree.specs.View.{given_of, givens}
@@ -13,11 +13,9 @@ use Rattle.lower_code.specs.Lowering.{given_local}
 use Rattle.lower_code.specs.Scopes.{Scope, hidden}
 use Rattle.lower_code.specs.declared.arounds.Around.{Around}
 use Rattle.lower_lookup.specs.Types.{differ_of}
-use Rattle.lower_expr.specs.Locals.{cut_to}
-use Rattle.lower_expr.proofs.Scoping.{cut_back}
 use Rattle.lower_declared.specs.Views.{field_now}
-use Rattle.lower_parts.specs.Parts.{Grown}
 use Rattle.lower_parts.proofs.Lists.{seen_next, seen_none}
+use Rattle.lower_parts.proofs.Facts.{left_fields, left_givens}
 use Rattle.lower_notes.specs.States.{puts}
 use Rattle.lower_notes.specs.Stretches.{Walk, one, last, ends, ◌then◌}
 use Rattle.lower_notes.specs.Noting.{given_args, field_walk, field_walks, instance_of}
@@ -26,20 +24,6 @@ use Rattle.note_stretches.specs.Noted.{Noted, walked}
 use Rattle.note_stretches.proofs.Laws.{walked_then, walked_nothing}
 use Rattle.note_parts.specs.Parts.{tree_walk}
 use Rattle.note_values.specs.Parts.{given_walk}
-
--- a scope that has grown, by one slot more, and cut back
-pub grown_none : (sc : Scope) → Grown sc sc
-grown_none sc = ([], refl)
-
-pub grown_more : (sc here new : Scope) → Grown sc here → new ≡ hidden ∷ here → Grown sc new
-grown_more sc here new g e = (hidden ∷ g.0, e ∙ ap (λ k. hidden ∷ k) g.1)
-
-pub grown_cut : (sc new : Scope) → Grown sc new → cut_to (length sc) new ≡ sc
-grown_cut sc new g = ap (cut_to (length sc)) g.1 ∙ cut_back g.0 sc
-
--- from the i-th part on
-abbrev pub left_givens : List Given → ℕ → Givens
-left_givens xs i = givens (map given_of (drop i xs))
 
 abbrev pub givens_walk : Program → Givens → Scope → Around → Walk
 givens_walk p = given_args (program_of p) (found_of p) (differ_of p)
@@ -60,10 +44,6 @@ module _ (p : Program) (xs : List Given) (i : ℕ) (a : Around) where
   pub givens_done : (sc : Scope) (b all : Noted) → length xs ≤ i → walked (givens_walk p (left_givens xs i) sc a) b ≡ all → b ≡ all
   givens_done sc b all h is =
       sym (ap (λ gs. walked (givens_walk p (givens gs) sc a) b) (seen_none given_of xs i h) ∙ walked_nothing b) ∙ is
-
--- from the i-th field on
-abbrev pub left_fields : List (Bor Field) → ℕ → List FieldTree
-left_fields xs i = map field_now (drop i xs)
 
 abbrev pub fields_walk : Program → List FieldTree → Givens → (l : ℕ) → Walk
 fields_walk p = field_walks (program_of p) (found_of p) (differ_of p)

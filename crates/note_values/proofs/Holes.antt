@@ -1,5 +1,5 @@
 -- Pieces of texts with holes.
-use Rattle.std.proofs.Common.{◌≡◌, ◌≢◌, ℕ, ◌+◌, ◌<◌, ◌≤◌, List, [], ◌∷◌, length, map, drop, get_or, true, false, refl, sym, ap, ◌∙◌}
+use Rattle.std.proofs.Common.{◌≡◌, ℕ, ◌+◌, ◌<◌, ◌≤◌, List, length, get_or, sym, ap, ◌∙◌}
 use Rattle.verse_tree.specs.Tree as t
 use Rattle.verse_tree.specs.Tree.{Bytes, Holes}
 use Rattle.verse_tree.specs.View.{hole_of, holes}
@@ -12,6 +12,7 @@ use Rattle.lower_code.specs.Scopes.{Scope}
 use Rattle.lower_code.specs.declared.arounds.Around.{Around}
 use Rattle.lower_lookup.specs.Types.{differ_of}
 use Rattle.lower_parts.proofs.Lists.{seen_next, seen_none}
+use Rattle.lower_parts.proofs.Facts.{left_holes}
 use Rattle.lower_notes.specs.Stretches.{Walk, last, ◌then◌}
 use Rattle.lower_notes.specs.Noting.{text_if, holed}
 use Rattle.note_sorts.specs.Tabled.{found_of}
@@ -19,17 +20,6 @@ use Rattle.note_stretches.specs.Noted.{Noted, walked}
 use Rattle.note_stretches.proofs.Laws.{walked_then, walked_nothing}
 use Rattle.note_parts.specs.Parts.{tree_walk, form_walk, no_place}
 use Rattle.note_values.specs.Parts.{hole_walk}
-
-pub some_text : (bs : Bytes) → bs ≢ [] → is_text bs ≡ true
-some_text [] h = absurd (h refl)
-some_text (b ∷ bs) h = refl
-
-pub none_text : (bs : Bytes) → bs ≡ [] → is_text bs ≡ false
-none_text bs h = ap is_text h
-
--- from the i-th hole on
-abbrev pub left_holes : List Hole → ℕ → Holes
-left_holes xs i = holes (map hole_of (drop i xs))
 
 abbrev pub holes_walk : Program → Holes → Scope → Around → Walk
 holes_walk p = holed (program_of p) (found_of p) (differ_of p)

@@ -1,5 +1,5 @@
 -- The keys of a map with their values, one pair after the other.
-use Rattle.std.proofs.Common.{◌≡◌, ℕ, ◌+◌, ◌<◌, ◌≤◌, List, length, map, drop, get_or, sym, ap, ◌∙◌}
+use Rattle.std.proofs.Common.{◌≡◌, ℕ, ◌+◌, ◌<◌, ◌≤◌, List, length, get_or, sym, ap, ◌∙◌}
 use Rattle.verse_tree.specs.Tree as t
 use Rattle.verse_tree.specs.View.{pair_of, pairs}
 use Rattle.verse_tree.specs.declared.exprs.Pair.{Pair}
@@ -11,6 +11,7 @@ use Rattle.lower_code.specs.Scopes.{Scope}
 use Rattle.lower_code.specs.declared.arounds.Around.{Around}
 use Rattle.lower_lookup.specs.Types.{differ_of}
 use Rattle.lower_parts.proofs.Lists.{seen_next, seen_none}
+use Rattle.lower_parts.proofs.Facts.{left_pairs}
 use Rattle.lower_notes.specs.Stretches.{Walk, last, widened, ◌then◌}
 use Rattle.lower_notes.specs.Noting.{key_in, paired_args}
 use Rattle.note_sorts.specs.Tabled.{found_of}
@@ -18,10 +19,6 @@ use Rattle.note_stretches.specs.Noted.{Noted, walked}
 use Rattle.note_stretches.proofs.Laws.{walked_then, walked_nothing}
 use Rattle.note_parts.specs.Parts.{tree_walk, form_walk, no_place}
 use Rattle.note_values.specs.Parts.{pair_walk}
-
--- from the i-th pair on
-abbrev pub left_pairs : List Pair → ℕ → t.Pairs
-left_pairs xs i = pairs (map pair_of (drop i xs))
 
 abbrev pub pairs_walk : Program → Sort → t.Pairs → Scope → Around → Walk
 pairs_walk p = paired_args (program_of p) (found_of p) (differ_of p)

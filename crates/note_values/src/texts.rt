@@ -23,7 +23,7 @@ use verse_base::refusals::Memory;
 use verse_tree::exprs::{Expr, Hole};
 
 /// Whether a piece of a text is there.
-#[tactic(auto, using(crate::proofs::Holes::some_text, crate::proofs::Holes::none_text))]
+#[tactic(auto, using(lower_parts::proofs::Facts::some_text, lower_parts::proofs::Facts::none_text))]
 fn is_text(text: &[u8]) -> bool
     ensures { result ≡ l.is_text text.now }
 {

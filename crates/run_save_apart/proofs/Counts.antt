@@ -1,13 +1,14 @@
 -- How many tasks have a number: at most one, and none has one that is to come.
 use Rattle.std.proofs.Common.{◌≡◌, ℕ, zero, suc, ◌+◌, ◌≤◌, List, [], ◌∷◌, Bool, true, false, cond, ap, arith}
 use Rattle.verse_meaning_state.specs.Waits.{eqn, ltn}
+use Rattle.verse_meaning_state.proofs.Keeping.{result_left}
 use Rattle.verse_code_machine.specs.Tasks.{Task}
 use Rattle.verse_code_machine.specs.Runs.{Forest}
 use Rattle.verse_code_machine_parents.specs.Parents.{whos, Rooted, TreesRooted}
 use Rattle.verse_code_machine_parents.proofs.Lists.{rooted_number, rooted_tail}
 use Rattle.run_save_shots.specs.Lists.{count}
 use Rattle.run_save_fits.specs.Held.{one, tasks_sum, trees_sum}
-use Rattle.run_save_fits.proofs.Counted.{same_left}
+use Rattle.run_save_fits.proofs.Counted.{ltn_less, one_most}
 use Rattle.run_save_fits.proofs.Measures.{Measure}
 use Rattle.run_save_apart.specs.Numbers.{numbered}
 
@@ -16,16 +17,6 @@ use Rattle.run_save_apart.specs.Numbers.{numbered}
 -- those that are not below the steps left
 abbrev pub taken : (left n : ℕ) → ℕ
 taken left n = one (ltn left (suc n))
-
-one_most : (b : Bool) → one b ≤ 1
-one_most true = omega arith
-one_most false = omega arith
-
-ltn_less : (l k n : ℕ) → l ≤ k → one (ltn k n) ≤ one (ltn l n)
-ltn_less l k zero h = omega arith
-ltn_less zero k (suc n) h = one_most (ltn k (suc n))
-ltn_less (suc l) zero (suc n) h = omega (arith, h)
-ltn_less (suc l) (suc k) (suc n) h = ltn_less l k n (omega (arith, h))
 
 pub taken_most : (left n : ℕ) → taken left n ≤ 1
 taken_most left n = one_most (ltn left (suc n))
@@ -73,7 +64,7 @@ number_of n = record {
   gone = λ t. omega arith;
   clears = λ w k l s e. let a = spends_so n l s.clock.left e in omega (arith, a);
   finishes = λ w k d r. omega arith;
-  gives = λ d v s. let a = ap (λ k. taken k n) (same_left d v s) in omega (arith, a);
+  gives = λ d v s. let a = ap (λ k. taken k n) (result_left d v s) in omega (arith, a);
   turns = λ l i s e. let a = spends_so n l s.clock.left e in omega (arith, a);
 }
 

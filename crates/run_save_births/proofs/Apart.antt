@@ -1,11 +1,13 @@
 -- No birth of a frame is the number of a child: an operation keeps that, for a path and a number.
-use Rattle.std.proofs.Common.{◌≡◌, ◌⊎◌, ◌≤◌, ℕ, zero, suc, List, [], ◌∷◌, ◌++◌, length, refl, sym, subst, ap, ◌∙◌, arith}
+use Rattle.std.proofs.Common.{◌≡◌, ◌⊎◌, ◌≤◌, ℕ, suc, List, [], ◌∷◌, ◌++◌, length, refl, sym, subst, ap, ◌∙◌, arith}
 use mathlib.Core.Logic.{inl, inr}
+use Rattle.std.proofs.lemmas.Bool.{cases_eq}
 use Rattle.verse_code_machine.specs.Tasks.{Frame, Who, Thread, Task, After, resuming, closing, finishing, Up, begins}
 use Rattle.verse_code_machine.specs.Tasks.{branching, spawning, clearing, World, Machine, Step, Next, Over, Turn, child_named, root_named}
 use Rattle.verse_code_machine.specs.Runs.{Forest}
 use Rattle.verse_code_machine_parents.proofs.Lists.{child_longer}
 use Rattle.run_save_shots.specs.Lists.{Each}
+use Rattle.run_save_shots.proofs.Lists.{last_same}
 use Rattle.run_save_births.specs.Births.{births, Rising, KeepsBirth}
 use Rattle.run_save_births.specs.Everywhere.{FramesAre, ThreadIs, TasksAre, TreesAre, AfterIs, UpIs, UpsAre, WorldIs, Stands, Unborn}
 use Rattle.run_save_births.specs.Everywhere.{NotChild, TreesApart, StepApart}
@@ -93,39 +95,17 @@ tail_is e = cc
 head_is : {i j : ℕ} {p q : List ℕ} → i ∷ p ≡ j ∷ q → i ≡ j
 head_is e = cc
 
-none_is : {A : Type 0} (a : List ℕ) (n : ℕ) → [] ≡ a ++ n ∷ [] → A
-none_is [] n e = cc
-none_is (i ∷ a) n e = cc
-
--- two paths that are one end with one number
-ends_same : (a b : List ℕ) (n k : ℕ) → a ++ n ∷ [] ≡ b ++ k ∷ [] → n ≡ k
-ends_same [] [] n k e = head_is e
-ends_same [] (j ∷ b) n k e = none_is b k (tail_is e)
-ends_same (i ∷ a) [] n k e = none_is a n (sym (tail_is e))
-ends_same (i ∷ a) (j ∷ b) n k e = ends_same a b n k (tail_is e)
-
 longer_not : (a : List ℕ) (n : ℕ) → a ≡ a ++ n ∷ [] → ⊥
 longer_not a n e = no (length a) (length (a ++ n ∷ [])) (child_longer a n) (ap length e)
   where
     no : (i j : ℕ) → suc i ≤ j → i ≡ j → ⊥
     no i j h e = omega (arith, h, e)
 
--- whether two numbers are one, and two paths
-pub same_number : (n k : ℕ) → (n ≡ k) ⊎ (n ≡ k → ⊥)
-same_number zero zero = inl refl
-same_number zero (suc k) = inr (λ e. cc)
-same_number (suc n) zero = inr (λ e. cc)
-same_number (suc n) (suc k) = further (same_number n k)
-  where
-    further : (n ≡ k) ⊎ (n ≡ k → ⊥) → (suc n ≡ suc k) ⊎ (suc n ≡ suc k → ⊥)
-    further (inl e) = inl (ap suc e)
-    further (inr f) = inr (λ e. f (omega (arith, e)))
-
 pub same_paths : (p q : List ℕ) → (p ≡ q) ⊎ (p ≡ q → ⊥)
 same_paths [] [] = inl refl
 same_paths [] (j ∷ q) = inr (λ e. cc)
 same_paths (i ∷ p) [] = inr (λ e. cc)
-same_paths (i ∷ p) (j ∷ q) = further (same_number i j) (same_paths p q)
+same_paths (i ∷ p) (j ∷ q) = further (cases_eq i j) (same_paths p q)
   where
     both : i ≡ j → p ≡ q → i ∷ p ≡ j ∷ q
     both e f = cc
@@ -217,7 +197,7 @@ module _ (path : List ℕ) (n : ℕ) where
   unborn_comes : {most : ℕ} {w : Who} {ns : List ℕ} {left : ℕ} → Stands left w ns → Comes (Unborn path n most) most w ns left →
       Either left most w ns (Unborn path n)
   unborn_comes {most = most} {w = w} {ns = ns} {left = left} s (same_frames e a) = inl (unborn_lower left most e w ns a)
-  unborn_comes {most = most} {w = w} {left = left} s (new_frame {n = i} {ns = ns} e a) = by_test (same_number n left)
+  unborn_comes {most = most} {w = w} {left = left} s (new_frame {n = i} {ns = ns} e a) = by_test (cases_eq n left)
     where
       by_test : (n ≡ left) ⊎ (n ≡ left → ⊥) → Either left most w (left ∷ i ∷ ns) (Unborn path n)
       by_test (inl f) = inr (
@@ -225,13 +205,13 @@ module _ (path : List ℕ) (n : ℕ) where
         inr ((fresh_child left most (later left most f e) (less left most e) w (i ∷ ns) a.stands).other),
       )
       by_test (inr f) = inl (record { stands = s; other = λ g. ((λ h. f (sym h)), a.other g) })
-  unborn_comes {most = most} {left = left} s (new_child {w = w} e a) = by_test (same_number n left)
+  unborn_comes {most = most} {left = left} s (new_child {w = w} e a) = by_test (cases_eq n left)
     where
       by_test : (n ≡ left) ⊎ (n ≡ left → ⊥) → Either left most (child_named w left) (left ∷ []) (Unborn path n)
       by_test (inl f) = begins_so left most (child_named w left) (left ∷ []) (Unborn path n) (later left most f e)
           (same_paths (w.path ++ left ∷ []) path)
       by_test (inr f) = inl (record { stands = s; other = λ g. ((λ h. f (sym h)), tt) })
-  unborn_comes {most = most} {left = left} s (new_root {entry = entry} e) = by_test (same_number n left)
+  unborn_comes {most = most} {left = left} s (new_root {entry = entry} e) = by_test (cases_eq n left)
     where
       by_test : (n ≡ left) ⊎ (n ≡ left → ⊥) → Either left most (root_named left entry) (left ∷ []) (Unborn path n)
       by_test (inl f) = begins_so left most (root_named left entry) (left ∷ []) (Unborn path n) (later left most f e)
@@ -242,18 +222,18 @@ module _ (path : List ℕ) (n : ℕ) where
       Either left most w ns (NotChild path n)
   child_comes {most = most} {w = w} {ns = ns} {left = left} s (same_frames e a) = inl (child_lower left most e w ns a)
   child_comes s (new_frame e a) = inl (record { stands = s; other = a.other })
-  child_comes {most = most} {left = left} s (new_child {w = w} e a) = by_test (same_number n left)
+  child_comes {most = most} {left = left} s (new_child {w = w} e a) = by_test (cases_eq n left)
     where
       by_test : (n ≡ left) ⊎ (n ≡ left → ⊥) → Either left most (child_named w left) (left ∷ []) (NotChild path n)
       by_test (inl f) = begins_so left most (child_named w left) (left ∷ []) (NotChild path n) (later left most f e)
           (same_paths (w.path ++ left ∷ []) path)
-      by_test (inr f) = inl (record { stands = s; other = λ g. f (sym (ends_same w.path path left n g)) })
-  child_comes {most = most} {left = left} s (new_root {entry = entry} e) = by_test (same_number n left)
+      by_test (inr f) = inl (record { stands = s; other = λ g. f (sym (last_same w.path path left n g)) })
+  child_comes {most = most} {left = left} s (new_root {entry = entry} e) = by_test (cases_eq n left)
     where
       by_test : (n ≡ left) ⊎ (n ≡ left → ⊥) → Either left most (root_named left entry) (left ∷ []) (NotChild path n)
       by_test (inl f) = begins_so left most (root_named left entry) (left ∷ []) (NotChild path n) (later left most f e)
           (same_paths (left ∷ []) path)
-      by_test (inr f) = inl (record { stands = s; other = λ g. f (sym (ends_same [] path left n g)) })
+      by_test (inr f) = inl (record { stands = s; other = λ g. f (sym (last_same [] path left n g)) })
 
   -- all tasks after an operation
   module _ (T : Who → List ℕ → Type 0) (most : ℕ) (so : (w : Who) (ns : List ℕ) → T w ns → Stands most w ns) (m : Machine)

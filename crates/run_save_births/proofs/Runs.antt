@@ -2,6 +2,7 @@
 use Rattle.std.proofs.Common.{◌≡◌, ◌⊎◌, ℕ, List, [], ◌∷◌, ◌++◌, Option, Some, None, refl, ap, subst, ◌∙◌}
 use Rattle.std.specs.Prelude.{ℤ, slice_get}
 use mathlib.Core.Logic.{inl, inr}
+use Rattle.std.proofs.lemmas.Bool.{cases_eq}
 use Rattle.verse_code.specs.declared.codes.Func.{Func}
 use Rattle.verse_code.specs.declared.codes.Code.{Code}
 use Rattle.verse_value.specs.Val.{Val}
@@ -18,12 +19,13 @@ use Rattle.verse_code_machine_births.proofs.Acts.{there_low, act_low}
 use Rattle.verse_code_machine_births.proofs.Running.{Invariant, started_is, turns_is}
 use Rattle.verse_code_machine_births.proofs.Runs.{AnyArms}
 use Rattle.run_save_shots.specs.Lists.{Each}
+use Rattle.run_save_shots.proofs.Lists.{each_middle}
 use Rattle.run_save_births.specs.Births.{births_of, KeepsBirth, NoChild, IsBorn, AreBorn}
 use Rattle.run_save_births.specs.Everywhere.{FramesAre, TaskIs, BeginsIs, TasksAre, TreesAre, MachineIs, MachineApart, Stands}
 use Rattle.run_save_births.specs.Everywhere.{Unborn, NotChild, TreesApart, StepApart}
 use Rattle.run_save_births.specs.Laws.{OperationIsBorn, StageIsBorn, RunIsBorn, BirthsGoOn}
 use Rattle.run_save_births.proofs.Kept.{frames_kept, Low, low_of}
-use Rattle.run_save_births.proofs.Apart.{out, trees_lower, same_number, same_paths}
+use Rattle.run_save_births.proofs.Apart.{out, trees_lower, same_paths}
 
 abbrev StageApart : List ℕ → ℕ → Stage Forest → Type 0
 StageApart path n = StageIs (TreesApart path n)
@@ -77,11 +79,6 @@ module _ (path : List ℕ) (n : ℕ) where
 
 -- ---- for all paths and numbers
 
--- of a task of the trees
-each_here : {A : Type 0} (P : A → Type 0) (front : List A) (x : A) (back : List A) → Each P (front ++ x ∷ back) → P x
-each_here P [] x back a = a.0
-each_here P (y ∷ front) x back a = each_here P front x back a.1
-
 module _ (left : ℕ) (tss : Forest) where
   -- from what holds of each task to what holds of all, for one path and number
   module _ (path : List ℕ) (n : ℕ) where
@@ -90,7 +87,7 @@ module _ (left : ℕ) (tss : Forest) where
 
     births_differ : (ns : List ℕ) → Each (NoChild tss path) ns → Other ns ⊎ NoChild tss path n
     births_differ [] a = inl tt
-    births_differ (k ∷ ns) a = by_number (same_number k n) (births_differ ns a.1)
+    births_differ (k ∷ ns) a = by_number (cases_eq k n) (births_differ ns a.1)
       where
         by_number : (k ≡ n) ⊎ (k ≡ n → ⊥) → Other ns ⊎ NoChild tss path n → Other (k ∷ ns) ⊎ NoChild tss path n
         by_number (inl e) h = inr (subst (NoChild tss path) e a.0)
@@ -176,7 +173,7 @@ module _ (left : ℕ) (tss : Forest) where
     birth_apart x ns ms k e there = by_apart (apart x.who.path k)
       where
         no : Each (λ i. i ≡ k → ⊥) (births_of x) → ⊥
-        no h = each_here (λ i. i ≡ k → ⊥) ns k ms (subst (Each (λ i. i ≡ k → ⊥)) e h) refl
+        no h = each_middle (λ i. i ≡ k → ⊥) ns k ms (subst (Each (λ i. i ≡ k → ⊥)) e h) refl
 
         by_apart : TreesApart x.who.path k left tss → NoChild tss x.who.path k
         by_apart (inl a) = absurd (no ((there (Unborn x.who.path k left) a).other refl))

@@ -9,7 +9,7 @@ use Rattle.verse_value.specs.Runs.{Line, Run}
 use Rattle.verse_value.specs.declared.runs.Ending.TheVariants as ending
 use Rattle.verse_meaning_state.specs.State.{State}
 use Rattle.verse_meaning_state.specs.Turns.{closed}
-use Rattle.verse_code_machine.specs.Tasks.{Frame, Thread, Task}
+use Rattle.verse_code_machine.specs.Tasks.{Thread, Task}
 use Rattle.verse_code_machine.specs.Runs.{Forest, mach}
 use Rattle.verse_code_machine.specs.Laws.{IsOver}
 use Rattle.verse_code_machine.specs.Goings.{gone_from, TasksAreFree, TreesAreFree, tasks_frames, trees_frames, CanGoOn, RunsEndFrom}
@@ -21,12 +21,13 @@ use Rattle.run_save_shots.specs.Lists.{Each, Reordered}
 use Rattle.run_save_shots.specs.Kept.{Kept}
 use Rattle.run_save_shots.specs.Keeping.{Spells, kept}
 use Rattle.run_save_shots.specs.Spelling.{state, trees}
+use Rattle.run_save_shots.proofs.Lists.{all_as}
 use Rattle.run_save_moves.specs.Fine.{TextsAreBytes}
-use Rattle.run_save_fits.specs.Held.{LowerStill, TaskFine, Savable, tasks_sum, trees_sum}
+use Rattle.run_save_fits.specs.Held.{TaskFine, Savable, tasks_sum, trees_sum}
 use Rattle.run_save_fits.specs.Laws.{InputsFit}
+use Rattle.run_save_fits.proofs.KeptAll.{reordered_each}
 use Rattle.run_save_kept.specs.Growing.{filled}
 use Rattle.run_save_kept.specs.Orders.{Orderly}
-use Rattle.run_save_kept.proofs.Sums.{all_as, reordered_each}
 use Rattle.run_save_births.specs.Births.{births_of, NoChild, IsBorn, AreBorn}
 use Rattle.run_save_groups.specs.Arms.{TaskIs}
 use Rattle.run_save_same.specs.Alike.{TaskAlike, TreesAlike, TreesAreSpelled}
@@ -41,12 +42,10 @@ use Rattle.run_save_chain.proofs.Meeting.{pair_each, pair_both}
 use Rattle.run_save_chain.proofs.Orderly.{orderly_met}
 use Rattle.run_save_chain.proofs.Births.{Bare, born_met, arms_met, trees_each, each_trees}
 use Rattle.run_save_orders.proofs.Ordered.{filled_each}
-use Rattle.run_save_chain.proofs.Savable.{trees_alike, filled_sum, task_fine, savable_again, scene}
+use Rattle.run_save_orders.proofs.Runs.{filled_sum}
+use Rattle.run_save_chain.proofs.Savable.{trees_alike, task_fine, savable_again, scene}
 use Rattle.run_save_same.proofs.Stopped.{can_go_on, tasks_count, tasks_free, trees_count, trees_free}
-
-bare_below : (c : Code) (n : ℕ) (fs : List Frame) → Each (LowerStill c n) fs → Each (λ (f : Frame). f.handlers ≡ []) fs
-bare_below c n [] a = tt
-bare_below c n (f ∷ fs) a = (a.0.0.handlers, bare_below c n fs a.1)
+use Rattle.run_save_same.proofs.Same.{bare_frames}
 
 at_most : {i j k : ℕ} → i ≡ j → j ≤ k → i ≤ k
 at_most e f = omega (arith, e, f)
@@ -143,7 +142,7 @@ module _ (c : Code) (steps until : ℕ) (s : State) (tss : Forest) (h : Held c s
       (m.who_met (state k) roots.own roots.other roots.own_sorts roots.other_sorts t u a.0 b.still.named) b
 
   bare : (u : Task) → FineNow u → Bare u.thread
-  bare u b = (b.still.frame.handlers, bare_below c _ u.thread.below b.still.below)
+  bare u b = (b.still.frame.handlers, bare_frames c _ u.thread.below b.still.below)
 
   savable : Savable c steps until (state k) uss
   savable = savable_again c steps until s tss y.ordered y.reordered h.savable alike (same c steps until s tss k h its).0

@@ -8,12 +8,12 @@ use Rattle.verse_code_machine.specs.Tasks.{Task}
 use Rattle.verse_code_machine.specs.Runs.{Forest}
 use Rattle.verse_code_machine.specs.Belonging.{StageBelongs}
 use Rattle.verse_code_machine.specs.Goings.{RunBelongsFrom}
-use Rattle.verse_code_machine_parents.proofs.Lists.{eqn_is}
 use Rattle.run_save_shots.specs.Lists.{Each, count}
 use Rattle.run_save_shots.specs.Kept.{Kept}
 use Rattle.run_save_shots.specs.Fitting.{Fits}
 use Rattle.run_save_shots.specs.Spelling.{state, trees, tasks_from}
 use Rattle.verse_base.specs.declared.limits.TheConstants.{MOST_STEPS}
+use Rattle.verse_meaning_state.proofs.Numbers.{eqn_is}
 use Rattle.run_save_moves.specs.Fine.{TextsAreBytes}
 use Rattle.run_save_fits.specs.Held.{Savable}
 use Rattle.run_save_fits.specs.Laws.{InputsFit, SavableGoesOn}

@@ -1,19 +1,21 @@
 -- Trees of tasks that come to the same under two numberings that sort.
 use Rattle.std.proofs.Common.{◌≡◌, ℕ, ◌+◌, List, [], ◌∷◌, ◌++◌, Bool, true, false, cond, refl, sym, subst, ap, ◌∙◌, arith}
 use Rattle.std.proofs.Common.{◌⊎◌, inl, inr}
+use Rattle.std.proofs.lemmas.Bool.{cases_Bool}
 use Rattle.verse_value.specs.Val.{Val}
 use Rattle.verse_meaning_state.specs.State.{State}
 use Rattle.verse_meaning_state.specs.Waits.{eqn}
+use Rattle.verse_meaning_state.proofs.Numbers.{eqn_is}
 use Rattle.verse_code_machine.specs.Tasks.{Role, root, part, Part, did, runs, Rest, asleep, group, Task, same_path}
 use Rattle.verse_code_machine.specs.Ends.{is_run}
 use Rattle.verse_code_machine.specs.Runs.{Forest}
-use Rattle.verse_code_machine_parents.proofs.Lists.{eqn_is}
+use Rattle.verse_code_machine.proofs.Paths.{same_is}
 use Rattle.verse_code_machine_saved.specs.Numbers.{Numbering, path_as, parts_as, rest_as, task_as, tasks_as, trees_as, renumbered}
 use Rattle.verse_code_machine_saved.proofs.Numbers.{same_as, path_end, eqn_number}
 use Rattle.run_save_shots.specs.Lists.{Each}
 use Rattle.run_save_fits.specs.Held.{IsSome, RoleIs, WhoIs, tasks_sum, trees_sum, one}
 use Rattle.run_save_kept.specs.Orders.{is_named, runs_in, arms_of, in_group, awaits, skips}
-use Rattle.run_save_kept.proofs.Paths.{two_ways, same_is, no_run}
+use Rattle.run_save_kept.proofs.Paths.{no_run}
 use Rattle.run_save_orders.specs.Roots.{Sorts}
 use Rattle.run_save_same.proofs.Pairs.{EachPair}
 use Rattle.run_save_chain.proofs.Numbered.{stay_apart, one_path}
@@ -204,7 +206,7 @@ module _ (s : State) (own other : Numbering) (own_sorts : Sorts own) (other_sort
   Named p = (q : List ℕ) × (A q ≡ B p)
 
   pub named_some : (p : List ℕ) (t u : Task) → Meet t u → (is_named p u ≡ 0) ⊎ Named p
-  named_some p t u m = by (two_ways (same_path p u.thread.who.path))
+  named_some p t u m = by (cases_Bool (same_path p u.thread.who.path))
     where
       by : (same_path p u.thread.who.path ≡ true) ⊎ (same_path p u.thread.who.path ≡ false) → (is_named p u ≡ 0) ⊎ Named p
       by (inl e) = inr (t.thread.who.path, path_met t u m ∙ ap B (sym (same_is p u.thread.who.path e)))
@@ -267,7 +269,7 @@ module _ (s : State) (own other : Numbering) (own_sorts : Sorts own) (other_sort
   has_run x y k (did v ∷ gs) (did w ∷ hs) m = has_run x y k gs hs m.1
   has_run x y k (did v ∷ gs) (runs j ∷ hs) m = absurd m.0
   has_run x y k (runs i ∷ gs) (did w ∷ hs) m = absurd m.0
-  has_run x y k (runs i ∷ gs) (runs j ∷ hs) m = by (two_ways (eqn k j)) (has_run x y k gs hs m.1)
+  has_run x y k (runs i ∷ gs) (runs j ∷ hs) m = by (cases_Bool (eqn k j)) (has_run x y k gs hs m.1)
     where
       by : (eqn k j ≡ true) ⊎ (eqn k j ≡ false) → (is_run k hs ≡ false) ⊎ ((n : ℕ) × (own x n ≡ other y k)) →
           (cond (eqn k j) true (is_run k hs) ≡ false) ⊎ ((n : ℕ) × (own x n ≡ other y k))
@@ -347,7 +349,7 @@ module _ (s : State) (own other : Numbering) (own_sorts : Sorts own) (other_sort
       by (asleep w) (asleep v) e = inl refl
       by (asleep w) (group l j hs) e = rest_no e
       by (group l i gs) (asleep v) e = rest_no (sym e)
-      by (group l i gs) (group j o hs) e = at_path gs hs (parts_met x y gs hs (group_parts e)) (two_ways (same_path p y))
+      by (group l i gs) (group j o hs) e = at_path gs hs (parts_met x y gs hs (group_parts e)) (cases_Bool (same_path p y))
 
   pub arms_some : (p : List ℕ) (k : ℕ) (t u : Task) → Meet t u → (awaits p k u ≡ 0) ⊎ Arm p k
   arms_some p k t u m = group_some p k (arms_of p k) (λ y hs e. ap (λ b. cond b (runs_in k hs) 0) e)

@@ -1,11 +1,12 @@
 -- Paths under numberings that sort.
 use Rattle.std.proofs.Common.{◌≡◌, ℕ, ◌≤◌, ◌<◌, List, [], ◌∷◌, ◌++◌, refl, sym, subst, ap, ◌∙◌, arith, ◌⊎◌, inl, inr}
 use Rattle.std.proofs.lemmas.Bool.{cases_lt}
+use Rattle.verse_code_machine.proofs.Paths.{same_is}
 use Rattle.verse_code_machine_saved.specs.Numbers.{Numbering, Fixed, path_from, path_as}
 use Rattle.verse_code_machine_saved.proofs.Numbers.{IsApart, same_as}
 use Rattle.run_save_fits.specs.Held.{IsSome}
 use Rattle.run_save_kept.specs.Orders.{Before, StandsBefore, NoneBelow, last}
-use Rattle.run_save_kept.proofs.Paths.{same_is, is_same}
+use Rattle.run_save_kept.proofs.Paths.{is_same}
 use Rattle.run_save_orders.specs.Roots.{Sorts}
 
 -- a path by its last number

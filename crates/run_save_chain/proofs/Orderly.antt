@@ -1,8 +1,10 @@
 -- How tasks stand to one another is the same in trees that come to the same under two numberings.
 use Rattle.std.proofs.Common.{◌≡◌, ℕ, suc, ◌+◌, ◌≤◌, ◌<◌, List, [], ◌∷◌, ◌++◌, Bool, true, false, cond, refl, sym, subst, ap, ◌∙◌, arith}
 use Rattle.std.proofs.Common.{◌⊎◌, inl, inr}
+use Rattle.std.proofs.lemmas.Bool.{cases_Bool}
 use Rattle.verse_meaning_state.specs.State.{State}
 use Rattle.verse_meaning_state.specs.Waits.{ltn}
+use Rattle.verse_meaning_state.proofs.Numbers.{ltn_is_not, ltn_is}
 use Rattle.verse_code_machine.specs.Tasks.{Who, Rest, asleep, group, Task, same_path}
 use Rattle.verse_code_machine.specs.Ends.{is_run}
 use Rattle.verse_code_machine.specs.Runs.{Forest}
@@ -12,8 +14,10 @@ use Rattle.verse_code_machine_saved.proofs.Numbers.{path_end}
 use Rattle.run_save_shots.specs.Lists.{Each}
 use Rattle.run_save_fits.specs.Held.{IsSome, tasks_sum, trees_sum, one}
 use Rattle.run_save_fits.proofs.Holding.{role_some}
+use Rattle.run_save_fits.proofs.Counted.{one_most}
 use Rattle.run_save_kept.specs.Orders.{StandsBefore, NoneBelow, Sits, Lined, last, is_named, in_group, awaits, skips, weight, Orderly}
-use Rattle.run_save_kept.proofs.Paths.{one_most, end_is, ltn_is, ltn_no, two_ways}
+use Rattle.run_save_kept.proofs.Paths.{end_is}
+use Rattle.run_save_kept.proofs.Sums.{sums_add}
 use Rattle.run_save_orders.specs.Roots.{Sorts}
 use Rattle.run_save_same.proofs.Pairs.{EachPair}
 use Rattle.run_save_chain.proofs.Numbered.{path_ends, stay_apart, one_path, most_at, least_at, stands_as, stood_as, below_as, below_was}
@@ -44,23 +48,18 @@ one_less false false f = omega arith
 
 -- a number is no lower than the bound, by the test
 ltn_yes : (k n : ℕ) → k ≤ n → ltn k (suc n) ≡ true
-ltn_yes k n h = by (two_ways (ltn k (suc n)))
+ltn_yes k n h = by (cases_Bool (ltn k (suc n)))
   where
     no : (k n : ℕ) → k ≤ n → suc n ≤ k → ⊥
     no k n h g = omega (arith, h, g)
 
     by : (ltn k (suc n) ≡ true) ⊎ (ltn k (suc n) ≡ false) → ltn k (suc n) ≡ true
     by (inl e) = e
-    by (inr e) = absurd (no k n h (ltn_no k (suc n) e))
-
--- what two weights come to
-weight_sums : (f g : Task → ℕ) (ts : List Task) → tasks_sum (λ t. f t + g t) ts ≡ tasks_sum f ts + tasks_sum g ts
-weight_sums f g [] = refl
-weight_sums f g (t ∷ ts) = let h = weight_sums f g ts in omega (arith, h)
+    by (inr e) = absurd (no k n h (ltn_is_not k (suc n) e))
 
 weights_sum : (f g : Task → ℕ) (tss : Forest) → trees_sum (λ t. f t + g t) tss ≡ trees_sum f tss + trees_sum g tss
 weights_sum f g [] = refl
-weights_sum f g (ts ∷ tss) = let h = weights_sum f g tss in let k = weight_sums f g ts in omega (arith, h, k)
+weights_sum f g (ts ∷ tss) = let h = weights_sum f g tss in let k = sums_add f g ts in omega (arith, h, k)
 
 sums_less : (f g : Task → ℕ) → ((t : Task) → f t ≤ g t) → (ts : List Task) → tasks_sum f ts ≤ tasks_sum g ts
 sums_less f g h [] = omega arith

@@ -1,10 +1,6 @@
 -- What can be saved of a state can be saved of the state that is spelled of what was kept.
-use Rattle.std.proofs.Common.{◌≡◌, ℕ, suc, ◌+◌, ◌≤◌, length, List, [], ◌∷◌, ◌++◌, Some, refl, sym, subst, ap, ◌∙◌, arith}
-use Rattle.std.proofs.lemmas.List.{length-append}
-use Rattle.std.specs.Prelude.{decimal}
-use Rattle.verse_base.specs.TraceLine.{line_bytes, escaped}
+use Rattle.std.proofs.Common.{◌≡◌, ℕ, suc, ◌+◌, ◌≤◌, length, List, [], ◌∷◌, Some, refl, sym, subst, ap, ◌∙◌, arith}
 use Rattle.verse_code.specs.declared.codes.Code.{Code}
-use Rattle.verse_value.specs.Runs.{Line}
 use Rattle.verse_meaning_state.specs.State.{State}
 use Rattle.verse_meaning_state.specs.Waits.{Cause, till, never, done, heard}
 use Rattle.verse_meaning_state.specs.Effects.{printed, printed_by}
@@ -20,31 +16,17 @@ use Rattle.run_save_shots.specs.Keeping.{kept}
 use Rattle.run_save_shots.specs.Spelling.{state, trees}
 use Rattle.run_save_moves.specs.Fine.{Scene}
 use Rattle.run_save_moves.specs.Moves.{BehindCall, BehindGroup, NotYet, PartFits}
-use Rattle.run_save_fits.specs.Held.{FrameStill, LowerStill, WhoIs, RestFine, TaskFine, CauseFine, Savable, tasks_sum, trees_sum}
+use Rattle.run_save_fits.specs.Held.{FrameStill, LowerStill, WhoIs, RestFine, TaskFine, CauseFine, Savable, trees_sum}
 use Rattle.run_save_fits.specs.Held.{is_wait, is_task_of, is_main}
+use Rattle.run_save_fits.proofs.KeptAll.{reordered_sum, lines_few}
 use Rattle.run_save_kept.specs.Growing.{filled}
-use Rattle.run_save_kept.proofs.Sums.{reordered_sum}
 use Rattle.run_save_same.specs.Alike.{FrameAlike, FramesAlike, PartsAlike, RestAlike, TaskAlike, TasksAlike, TreesAlike}
 use Rattle.run_save_same.proofs.Pairs.{EachPair}
 use Rattle.run_save_chain.proofs.Meeting.{trees_same}
 use Rattle.run_save_orders.proofs.Ordered.{filled_each}
+use Rattle.run_save_orders.proofs.Runs.{filled_sum}
 
 -- ---- what was printed
-
-line_long : (l : Line) → 1 ≤ length (line_bytes l.moment l.bytes)
-line_long l = let a = length-append (decimal l.moment) (32 ∷ (escaped l.bytes ++ 10 ∷ [])) in
-    long (length (decimal l.moment)) (length (escaped l.bytes ++ 10 ∷ [])) (length (line_bytes l.moment l.bytes)) a
-  where
-    long : (a b n : ℕ) → n ≡ a + suc b → 1 ≤ n
-    long a b n e = omega (arith, e)
-
-lines_few : (ls : List Line) → length ls ≤ length (printed ls)
-lines_few [] = omega arith
-lines_few (l ∷ ls) = more (length ls) (length (line_bytes l.moment l.bytes)) (length (printed ls)) (length (printed (l ∷ ls)))
-    (length-append (line_bytes l.moment l.bytes) (printed ls)) (line_long l) (lines_few ls)
-  where
-    more : (n a b all : ℕ) → all ≡ a + b → 1 ≤ a → n ≤ b → suc n ≤ all
-    more n a b all e f g = omega (arith, e, f, g)
 
 -- ---- trees
 
@@ -59,11 +41,6 @@ trees_alike [] [] a = tt
 trees_alike [] (us ∷ uss) a = absurd a
 trees_alike (ts ∷ tss) [] a = absurd a
 trees_alike (ts ∷ tss) (us ∷ uss) a = (tasks_alike ts us a.0, trees_alike tss uss a.1)
-
-pub filled_sum : (f : Task → ℕ) (tss : Forest) → trees_sum f (filled tss) ≡ trees_sum f tss
-filled_sum f [] = refl
-filled_sum f ([] ∷ tss) = let h = filled_sum f tss in omega (arith, h)
-filled_sum f ((t ∷ ts) ∷ tss) = ap (λ n. tasks_sum f (t ∷ ts) + n) (filled_sum f tss)
 
 -- ---- tasks
 

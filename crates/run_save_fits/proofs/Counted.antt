@@ -8,6 +8,7 @@ use Rattle.verse_value.specs.Val.{Val}
 use Rattle.verse_meaning_state.specs.State.{State, Given, Before, stepped, at_moment, with_result, drawn, with_entry, set_at}
 use Rattle.verse_meaning_state.specs.Waits.{Cause, Wait, waiting, eqn, ltn, nth}
 use Rattle.verse_meaning_state.specs.Turns.{Kind}
+use Rattle.verse_meaning_state.proofs.Keeping.{result_left}
 use Rattle.verse_code_machine.specs.Tasks.{Frame, Role, root, part, Who, Part, Rest, asleep, group, Thread, Task}
 use Rattle.run_save_moves.specs.Fine.{Ticks}
 use Rattle.run_save_fits.specs.Held.{one, is_wait, is_task_of, unfinished, is_main}
@@ -284,10 +285,6 @@ main_task = record {
   turns = λ l i s h. omega arith;
 }
 
-pub same_left : (entry : Option ℕ) (v : Val) (s : State) → (with_result entry v s).clock.left ≡ s.clock.left
-same_left None v s = refl
-same_left (Some e) v s = refl
-
 pub same_before : (entry : Option ℕ) (v : Val) (s : State) → (with_result entry v s).clock.before ≡ s.clock.before
 same_before None v s = refl
 same_before (Some e) v s = refl
@@ -318,7 +315,7 @@ sum_below steps = record {
   gone = λ t. omega arith;
   clears = λ w k l s e. omega (arith, e);
   finishes = λ w k e r. omega arith;
-  gives = λ e v s. let a = same_left e v s in let b = same_spent e v s in omega (arith, a, b);
+  gives = λ e v s. let a = result_left e v s in let b = same_spent e v s in omega (arith, a, b);
   turns = λ l i s e. omega (arith, e);
 }
 
@@ -348,7 +345,7 @@ sum_above steps = record {
   gone = λ t. omega arith;
   clears = λ w k l s e. omega (arith, e);
   finishes = λ w k e r. omega arith;
-  gives = λ e v s. let a = same_left e v s in let b = same_spent e v s in omega (arith, a, b);
+  gives = λ e v s. let a = result_left e v s in let b = same_spent e v s in omega (arith, a, b);
   turns = λ l i s e. omega (arith, e);
 }
 
@@ -382,3 +379,13 @@ lines_before = record {
       ap (λ (b : Before). b.lines) (same_before e v s) in omega (arith, a, d);
   turns = λ l i s e. omega (arith, e);
 }
+
+pub one_most : (b : Bool) → one b ≤ 1
+one_most true = omega arith
+one_most false = omega arith
+
+pub ltn_less : (l k n : ℕ) → l ≤ k → one (ltn k n) ≤ one (ltn l n)
+ltn_less l k zero h = omega arith
+ltn_less zero k (suc n) h = one_most (ltn k (suc n))
+ltn_less (suc l) zero (suc n) h = omega (arith, h)
+ltn_less (suc l) (suc k) (suc n) h = ltn_less l k n (omega (arith, h))

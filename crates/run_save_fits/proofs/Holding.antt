@@ -11,7 +11,7 @@ use Rattle.verse_value.specs.Val.{no_vals}
 use Rattle.verse_value.specs.Val.{more_vals, Pairs, no_pairs, more_pairs}
 use Rattle.verse_value.specs.Store.{Store, Cell}
 use Rattle.verse_meaning_state.specs.State.{State, Given, Signal, stepped, at_moment, with_result, drawn, with_entry, set_at}
-use Rattle.verse_meaning_state.specs.Waits.{Cause, till, never, done, heard, Wait, waiting, nth, eqn}
+use Rattle.verse_meaning_state.specs.Waits.{Cause, till, never, done, heard, Wait, waiting, eqn}
 use Rattle.verse_meaning_state.specs.Turns.{Kind}
 use Rattle.verse_code_machine.specs.Tasks.{Handler, Frame, Note, Role, root, part, Who, Part, did, runs, Rest, asleep, group, Thread}
 use Rattle.verse_code_machine.specs.Tasks.{thread, Task}
@@ -26,6 +26,8 @@ use Rattle.verse_code_machine_parents.specs.Parents.{UpsRooted}
 use Rattle.run_save_shots.specs.Lists.{Each}
 use Rattle.run_save_shots.specs.Fitting.{IsSound, AreSound, PairsAreSound, ValueFits, ValuesFit, GivenFits, IsBlock}
 use Rattle.verse_base.specs.declared.limits.TheConstants.{MOST_NOW, MOST_MOMENT}
+use Rattle.verse_meaning_state.proofs.Numbers.{nth_within}
+use Rattle.run_save_shots.proofs.Lists.{each_join, each_front, each_back, all_as, each_cond}
 use Rattle.run_save_moves.specs.Fine.{Scene, SlotsFine, MemoryFine, HandlerFine, FrameFine, StateFine, Ticks, Changes, IsEvent}
 use Rattle.run_save_moves.specs.Moves as m
 use Rattle.run_save_moves.specs.Moves.{Point, Move, Leads, IsCalm, Holds, BehindCall, BehindWait, BehindGroup, CauseIs, NotYet, PartFits}
@@ -37,22 +39,6 @@ use Rattle.run_save_moves.proofs.Values.{unit_fits, task_fits}
 
 -- ---- lists
 
-pub each_more : {A : Type 0} (P : A → Type 0) (xs ys : List A) → Each P xs → Each P ys → Each P (xs ++ ys)
-each_more P [] ys a b = b
-each_more P (x ∷ xs) ys a b = (a.0, each_more P xs ys a.1 b)
-
-pub each_front : {A : Type 0} (P : A → Type 0) (xs ys : List A) → Each P (xs ++ ys) → Each P xs
-each_front P [] ys a = tt
-each_front P (x ∷ xs) ys a = (a.0, each_front P xs ys a.1)
-
-pub each_back : {A : Type 0} (P : A → Type 0) (xs ys : List A) → Each P (xs ++ ys) → Each P ys
-each_back P [] ys a = a
-each_back P (x ∷ xs) ys a = each_back P xs ys a.1
-
-pub each_as : {A : Type 0} (P Q : A → Type 0) → ((x : A) → P x → Q x) → (xs : List A) → Each P xs → Each Q xs
-each_as P Q f [] a = tt
-each_as P Q f (x ∷ xs) a = (f x a.0, each_as P Q f xs a.1)
-
 module _ (P : Task → Type 0) where
   onto_each : (xs ts : List Task) → Each P xs → Each P ts → Each P (onto xs ts)
   onto_each [] ts a b = b
@@ -62,17 +48,13 @@ module _ (P : Task → Type 0) where
   onto_post [] ts a = (tt, a)
   onto_post (x ∷ xs) ts a = let h = onto_post xs (x ∷ ts) a in ((h.1.0, h.0), h.1.1)
 
-  cond_each : (b : Bool) (xs ys : List Task) → Each P xs → Each P ys → Each P (cond b xs ys)
-  cond_each true xs ys a b = a
-  cond_each false xs ys a b = b
-
   without_each : (f : List ℕ → Bool) (ts : List Task) → Each P ts → Each P (without f ts)
   without_each f [] a = tt
-  without_each f (t ∷ ts) a = cond_each (f t.thread.who.path) _ _ (without_each f ts a.1) (a.0, without_each f ts a.1)
+  without_each f (t ∷ ts) a = each_cond P (f t.thread.who.path) _ _ (without_each f ts a.1) (a.0, without_each f ts a.1)
 
   inserted_each : (t : Task) (ts : List Task) → P t → Each P ts → Each P (inserted t ts)
   inserted_each t [] a b = (a, tt)
-  inserted_each t (x ∷ xs) a b = cond_each (starts t.thread.who.path x.thread.who.path) (x ∷ inserted t xs) (t ∷ x ∷ xs) (
+  inserted_each t (x ∷ xs) a b = each_cond P (starts t.thread.who.path x.thread.who.path) (x ∷ inserted t xs) (t ∷ x ∷ xs) (
     b.0,
     inserted_each t xs a
         b.1,
@@ -80,15 +62,15 @@ module _ (P : Task → Type 0) where
 
   before_each : (f : List ℕ → Bool) (ts : List Task) → Each P ts → Each P (gone_before f ts)
   before_each f [] a = tt
-  before_each f (t ∷ ts) a = cond_each (f t.thread.who.path) _ _ (inserted_each t (gone_before f ts) a.0 (before_each f ts a.1))
+  before_each f (t ∷ ts) a = each_cond P (f t.thread.who.path) _ _ (inserted_each t (gone_before f ts) a.0 (before_each f ts a.1))
       (before_each f ts a.1)
 
   behind_each : (f : List ℕ → Bool) (ts : List Task) → Each P ts → Each P (gone_behind f ts)
   behind_each f [] a = tt
-  behind_each f (t ∷ ts) a = cond_each (f t.thread.who.path) (t ∷ gone_behind f ts) _ (a.0, behind_each f ts a.1) (behind_each f ts a.1)
+  behind_each f (t ∷ ts) a = each_cond P (f t.thread.who.path) (t ∷ gone_behind f ts) _ (a.0, behind_each f ts a.1) (behind_each f ts a.1)
 
   cancelled_each : (f : List ℕ → Bool) (o : World) → Each P o.pre → Each P o.post → Each P (cancelled f o)
-  cancelled_each f o a b = each_more P (gone_before f o.pre) (gone_behind f o.post) (before_each f o.pre a) (behind_each f o.post b)
+  cancelled_each f o a b = each_join P (gone_before f o.pre) (gone_behind f o.post) (before_each f o.pre a) (behind_each f o.post b)
 
 -- ---- what is fine stays so where there are more entries
 
@@ -120,7 +102,7 @@ lift_value : (n m : ℕ) → n ≤ m → (v : Val) → ValueFits n v → ValueFi
 lift_value n m h v a = record { small = a.small; sound = lift_sound h v a.sound }
 
 lift_values : (n m : ℕ) → n ≤ m → (vs : List Val) → ValuesFit n vs → ValuesFit m vs
-lift_values n m h vs a = each_as (ValueFits n) (ValueFits m) (lift_value n m h) vs a
+lift_values n m h vs a = all_as (ValueFits n) (ValueFits m) (lift_value n m h) vs a
 
 lift_given : (n m : ℕ) → n ≤ m → (g : Option Given) → GivenFits n g → GivenFits m g
 lift_given n m h None a = tt
@@ -241,7 +223,7 @@ module _ (c : Code) (until : ℕ) (short : until ≤ MOST_NOW) where
   fine_thread z x a = record {
     named = a.named;
     frame = fine_frame z x.frame a.frame;
-    below = each_as (LowerStill z.entries) (LowerFine z) (λ f b. (fine_frame z f b.0, b.1)) x.below a.below;
+    below = all_as (LowerStill z.entries) (LowerFine z) (λ f b. (fine_frame z f b.0, b.1)) x.below a.below;
   }
 
   with_value : (z : Scene) (x : Thread) (v : Val) → ThreadFine z x → ValueFits z.entries v →
@@ -274,7 +256,7 @@ module _ (c : Code) (until : ℕ) (short : until ≤ MOST_NOW) where
   lift_thread n i h x a = record {
     named = a.named;
     frame = lift_frame n i h x.frame a.frame;
-    below = each_as (LowerStill n) (LowerStill i) (λ f b. (lift_frame n i h f b.0, b.1)) x.below a.below;
+    below = all_as (LowerStill n) (LowerStill i) (λ f b. (lift_frame n i h f b.0, b.1)) x.below a.below;
   }
 
   module _ (z : Scene) (n : ℕ) (y : Scene) (i : ℕ) (wide : Wider z n y i) where
@@ -285,7 +267,7 @@ module _ (c : Code) (until : ℕ) (short : until ≤ MOST_NOW) where
     lift_cause (heard d) a = wide.events d a
 
     lift_parts : (gs : List Part) → Each (PartFits z.entries) gs → Each (PartFits y.entries) gs
-    lift_parts gs a = each_as (PartFits z.entries) (PartFits y.entries) (lift_part z.entries y.entries wide.entries) gs a
+    lift_parts gs a = all_as (PartFits z.entries) (PartFits y.entries) (lift_part z.entries y.entries wide.entries) gs a
 
     lift_rest : (place : ℕ) (r : Rest) → RestFine z n place r → RestFine y i place r
     lift_rest place (asleep w) a = let h = wide.next in let b = a.0 in (omega (arith, b, h), a.1, lift_cause w.cause a.2)
@@ -298,10 +280,10 @@ module _ (c : Code) (until : ℕ) (short : until ≤ MOST_NOW) where
     }
 
     lift_tasks : (ts : List Task) → TasksFine z n ts → TasksFine y i ts
-    lift_tasks ts a = each_as (TaskFine z n) (TaskFine y i) lift_task ts a
+    lift_tasks ts a = all_as (TaskFine z n) (TaskFine y i) lift_task ts a
 
     lift_trees : (tss : Forest) → TreesFine z n tss → TreesFine y i tss
-    lift_trees tss a = each_as (TasksFine z n) (TasksFine y i) lift_tasks tss a
+    lift_trees tss a = all_as (TasksFine z n) (TasksFine y i) lift_tasks tss a
 
     lift_group : (k : Kind) (p : Place) (gs : List Part) (arms : ℕ) (x : Thread) → GroupFine z k p gs arms x → GroupFine y k p gs arms x
     lift_group k p gs arms x a = record {
@@ -395,11 +377,6 @@ module _ (c : Code) (until : ℕ) (short : until ≤ MOST_NOW) where
   still_has (done entry) es e a = a
   still_has (heard d) es e a = inr a
 
-  nth_below : {A : Type 0} (xs : List A) (i : ℕ) (x : A) → nth xs i ≡ Some x → i < length xs
-  nth_below [] i x e = absurd (cc)
-  nth_below (y ∷ xs) zero x e = omega arith
-  nth_below (y ∷ xs) (suc i) x e = let h = nth_below xs i x e in omega (arith, h)
-
   soon : (moment now : ℕ) → moment ≤ now + 1000000000 → now ≤ 1000000000000 → moment ≤ 2000000000000
   soon moment now e f = omega (arith, e, f)
 
@@ -412,7 +389,7 @@ module _ (c : Code) (until : ℕ) (short : until ≤ MOST_NOW) where
   cause_fine : (z : Scene) (s : State) (cause : Cause) → StateHeld z s → CauseIs s cause → CauseFine (awaiting z cause) cause
   cause_fine z s (till moment) a i = soon moment s.clock.now i (early s.clock.now a.now)
   cause_fine z s never a i = tt
-  cause_fine z s (done entry) a i = within entry (length s.clock.results) z.entries (nth_below s.clock.results entry None i) a.fine.entries
+  cause_fine z s (done entry) a i = within entry (length s.clock.results) z.entries (nth_within s.clock.results entry None i) a.fine.entries
   cause_fine z s (heard d) a i = inl refl
 
   awaiting_wide : (z : Scene) (n : ℕ) (cause : Cause) → Wider z n (awaiting z cause) (suc n)
@@ -451,20 +428,20 @@ module _ (c : Code) (until : ℕ) (short : until ≤ MOST_NOW) where
       before = a.fine.before;
       entries = length-append s.clock.results (None ∷ []) ∙ one_more (length s.clock.results) z.entries a.fine.entries;
       memory = record {
-        slots = each_as (λ (d : Cell). ValuesFit z.entries d.slots) (λ (d : Cell). ValuesFit (suc z.entries) d.slots)
+        slots = all_as (λ (d : Cell). ValuesFit z.entries d.slots) (λ (d : Cell). ValuesFit (suc z.entries) d.slots)
             (λ d b. lift_values z.entries (suc z.entries) h d.slots b) s.memory.store a.fine.memory.slots;
         weight = a.fine.memory.weight;
         told = a.fine.memory.told;
         events = a.fine.memory.events;
       };
-      results = each_more (GivenFits (suc z.entries)) s.clock.results (None ∷ [])
-          (each_as (GivenFits z.entries) (GivenFits (suc z.entries)) (lift_given z.entries (suc z.entries) h) s.clock.results
+      results = each_join (GivenFits (suc z.entries)) s.clock.results (None ∷ [])
+          (all_as (GivenFits z.entries) (GivenFits (suc z.entries)) (lift_given z.entries (suc z.entries) h) s.clock.results
           a.fine.results) (tt, tt);
-      signals = each_as (λ (g : Signal). ValueFits z.entries g.given.value) (λ (g : Signal). ValueFits (suc z.entries) g.given.value)
+      signals = all_as (λ (g : Signal). ValueFits z.entries g.given.value) (λ (g : Signal). ValueFits (suc z.entries) g.given.value)
           (λ g b. lift_value z.entries (suc z.entries) h g.given.value b) s.clock.signals a.fine.signals;
     };
     now = a.now;
-    results = each_more (NoLater until) s.clock.results (None ∷ []) a.results (tt, tt);
+    results = each_join (NoLater until) s.clock.results (None ∷ []) a.results (tt, tt);
   }
 
   -- ---- groups and worlds
@@ -480,7 +457,7 @@ module _ (c : Code) (until : ℕ) (short : until ≤ MOST_NOW) where
     place = subst (λ n. BehindGroup c x.frame.place k p n) (sums (length gs) (length (gs ++ g ∷ [])) ls (length-append gs (g ∷ [])))
         a.place;
     some = subst (λ n. 1 ≤ n) (sums (length gs) (length (gs ++ g ∷ [])) ls (length-append gs (g ∷ []))) a.some;
-    parts = each_more (PartFits z.entries) gs (g ∷ []) a.parts (b, tt);
+    parts = each_join (PartFits z.entries) gs (g ∷ []) a.parts (b, tt);
   }
     where
       sums : (n m ls : ℕ) → m ≡ n + 1 → suc (n + ls) ≡ m + ls
@@ -517,7 +494,7 @@ module _ (c : Code) (until : ℕ) (short : until ≤ MOST_NOW) where
 
   turn_fine : (z : Scene) (n : ℕ) (pre post : List Task) (trees : Trees) (us : List Up) → Others z n pre post us trees →
       TreesFine z n (trees.before ++ onto pre post ∷ trees.behind)
-  turn_fine z n pre post trees us a = each_more (TasksFine z n) trees.before (onto pre post ∷ trees.behind) a.before_fine (
+  turn_fine z n pre post trees us a = each_join (TasksFine z n) trees.before (onto pre post ∷ trees.behind) a.before_fine (
     onto_each (TaskFine z n) pre post a.pre_fine a.post_fine,
     a.behind_fine,
   )
@@ -725,7 +702,7 @@ module _ (c : Code) (until : ℕ) (short : until ≤ MOST_NOW) where
       a.0,
       with_value z x (task entry) (fine_thread z x a.1.ups.0.0) (task_fits z.entries entry a.1.ups.0.1),
       others a.1.ups.0.2 a.1.ups.0.3 a.1.ups.1 a.1.before_fine
-          (each_more (TasksFine z s.clock.next) trees.behind (onto pre post ∷ []) a.1.behind_fine (
+          (each_join (TasksFine z s.clock.next) trees.behind (onto pre post ∷ []) a.1.behind_fine (
             onto_each (TaskFine z s.clock.next) pre post a.1.pre_fine a.1.post_fine,
             tt,
           )),

@@ -1,5 +1,5 @@
 -- What is kept of a whole run that stopped fits its code.
-use Rattle.std.proofs.Common.{◌≡◌, ℕ, zero, suc, ◌+◌, ◌≤◌, length, map, reverse, List, [], ◌∷◌, ◌++◌, Option, Some, None, Bool, true, false}
+use Rattle.std.proofs.Common.{◌≡◌, ℕ, suc, ◌+◌, ◌≤◌, length, map, reverse, List, [], ◌∷◌, ◌++◌, Option, Some, None, Bool, true, false}
 use Rattle.std.proofs.Common.{cond}
 use Rattle.std.proofs.Common.{refl, sym, subst, ap, ◌∙◌, arith}
 use Rattle.std.specs.Prelude.{◌≢◌, decimal}
@@ -26,60 +26,59 @@ use Rattle.run_save_shots.specs.Fitting.{ValuesFit, GivenFits, TaskFits, waits_i
 use Rattle.run_save_shots.specs.Keeping as kp
 use Rattle.run_save_shots.specs.Keeping.{behind_parent, walked, walk, kept, Spells}
 use Rattle.verse_base.specs.declared.limits.TheConstants.{MOST_STEPS, MOST_NOW}
+use Rattle.verse_meaning_state.proofs.Numbers.{eqn_same}
+use Rattle.run_save_shots.proofs.Lists.{each_join, each_front, each_back, all_as, each_both, each_cond}
 use Rattle.run_save_fits.specs.Held.{WhoIs, is_main, TaskFine, Savable, tasks_sum, trees_sum, one, is_wait, is_task_of, unfinished}
 use Rattle.run_save_fits.specs.Laws.{FitsApart, StoppedRunFits, ResumedRunFits, StageSavable}
-use Rattle.run_save_fits.proofs.Holding.{each_more, each_front, each_back, each_as}
-use Rattle.run_save_fits.proofs.KeptTasks.{each_map, map_length, RootRuns, RestLate, frames_number, task_fits}
+use Rattle.run_save_fits.proofs.KeptTasks.{each_map, RootRuns, RestLate, frames_number, task_fits}
 use Rattle.run_save_fits.proofs.KeptOrder.{InWalk, walk_well, depths_fit, parents_fit, main_fits, roots_fit}
 use Rattle.run_save_fits.proofs.Stopping.{TaskLate, TreesLate, StageLate, within_late, turns_late}
 use Rattle.run_save_fits.proofs.Saved.{run_is_savable, savable_goes_on}
+use Rattle.run_save_fits.proofs.Counted.{one_most}
 
 -- ---- the tasks in their order
 
 module _ (P : Task → Type 0) where
-  cond_each : (b : Bool) (xs ys : List Task) → Each P xs → Each P ys → Each P (cond b xs ys)
-  cond_each true xs ys a b = a
-  cond_each false xs ys a b = b
-
-  behind_each : (y : Task) (xs : List Task) → P y → Each P xs → Each P (behind_parent y xs)
+  pub behind_each : (y : Task) (xs : List Task) → P y → Each P xs → Each P (behind_parent y xs)
   behind_each y [] a b = (a, tt)
-  behind_each y (x ∷ xs) a b = cond_each (same_path y.thread.who.up x.thread.who.path) (x ∷ y ∷ xs) (x ∷ behind_parent y xs) (b.0, (a, b.1)) (
-    b.0,
-    behind_each y xs a b.1,
-  )
+  behind_each y (x ∷ xs) a b =
+      each_cond P (same_path y.thread.who.up x.thread.who.path) (x ∷ y ∷ xs) (x ∷ behind_parent y xs) (b.0, (a, b.1)) (
+        b.0,
+        behind_each y xs a b.1,
+      )
 
-  walked_each : (ys : List Task) → Each P ys → Each P (walked ys)
+  pub walked_each : (ys : List Task) → Each P ys → Each P (walked ys)
   walked_each [] a = tt
   walked_each (y ∷ ys) a = behind_each y (walked ys) a.0 (walked_each ys a.1)
 
   walk_each : (tss : Forest) → Each (λ ts. Each P ts) tss → Each P (walk tss)
   walk_each [] a = tt
-  walk_each (ts ∷ tss) a = each_more P (walked ts) (walk tss) (walked_each ts a.0) (walk_each tss a.1)
+  walk_each (ts ∷ tss) a = each_join P (walked ts) (walk tss) (walked_each ts a.0) (walk_each tss a.1)
 
-reordered_each : {A : Type 0} (P : A → Type 0) {xs zs : List A} → Reordered xs zs → Each P xs → Each P zs
+pub reordered_each : {A : Type 0} (P : A → Type 0) {xs zs : List A} → Reordered xs zs → Each P xs → Each P zs
 reordered_each P no_elements a = tt
 reordered_each P (one_more {x = x} front back e o) a = let b = reordered_each P o a.1 in
-    subst (Each P) (sym e) (each_more P front (x ∷ back) (each_front P front back b) (a.0, each_back P front back b))
+    subst (Each P) (sym e) (each_join P front (x ∷ back) (each_front P front back b) (a.0, each_back P front back b))
 
 module _ (f : Task → ℕ) where
-  tasks_join : (xs ys : List Task) → tasks_sum f (xs ++ ys) ≡ tasks_sum f xs + tasks_sum f ys
+  pub tasks_join : (xs ys : List Task) → tasks_sum f (xs ++ ys) ≡ tasks_sum f xs + tasks_sum f ys
   tasks_join [] ys = omega arith
   tasks_join (x ∷ xs) ys = let h = tasks_join xs ys in omega (arith, h)
 
-  trees_join : (xs ys : Forest) → trees_sum f (xs ++ ys) ≡ trees_sum f xs + trees_sum f ys
+  pub trees_join : (xs ys : Forest) → trees_sum f (xs ++ ys) ≡ trees_sum f xs + trees_sum f ys
   trees_join [] ys = omega arith
   trees_join (x ∷ xs) ys = let h = trees_join xs ys in omega (arith, h)
 
-  cond_sum : (b : Bool) (xs ys : List Task) (n : ℕ) → tasks_sum f xs ≡ n → tasks_sum f ys ≡ n → tasks_sum f (cond b xs ys) ≡ n
+  pub cond_sum : (b : Bool) (xs ys : List Task) (n : ℕ) → tasks_sum f xs ≡ n → tasks_sum f ys ≡ n → tasks_sum f (cond b xs ys) ≡ n
   cond_sum true xs ys n a b = a
   cond_sum false xs ys n a b = b
 
-  behind_sum : (y : Task) (xs : List Task) → tasks_sum f (behind_parent y xs) ≡ f y + tasks_sum f xs
+  pub behind_sum : (y : Task) (xs : List Task) → tasks_sum f (behind_parent y xs) ≡ f y + tasks_sum f xs
   behind_sum y [] = refl
   behind_sum y (x ∷ xs) = let h = behind_sum y xs in cond_sum (same_path y.thread.who.up x.thread.who.path) (x ∷ y ∷ xs)
       (x ∷ behind_parent y xs) (f y + (f x + tasks_sum f xs)) (omega arith) (omega (arith, h))
 
-  walked_sum : (ys : List Task) → tasks_sum f (walked ys) ≡ tasks_sum f ys
+  pub walked_sum : (ys : List Task) → tasks_sum f (walked ys) ≡ tasks_sum f ys
   walked_sum [] = refl
   walked_sum (y ∷ ys) = let h = walked_sum ys in let g = behind_sum y (walked ys) in omega (arith, h, g)
 
@@ -87,7 +86,7 @@ module _ (f : Task → ℕ) where
   walk_sum [] = refl
   walk_sum (ts ∷ tss) = let a = tasks_join (walked ts) (walk tss) in let b = walked_sum ts in let d = walk_sum tss in omega (arith, a, b, d)
 
-  reordered_sum : {xs zs : Forest} → Reordered xs zs → trees_sum f zs ≡ trees_sum f xs
+  pub reordered_sum : {xs zs : Forest} → Reordered xs zs → trees_sum f zs ≡ trees_sum f xs
   reordered_sum no_elements = refl
   reordered_sum (one_more {x = x} {xs = xs} {zs = zs} front back e o) = let h = reordered_sum o in let a =
       trees_join front (x ∷ back) in let b = trees_join front
@@ -111,10 +110,6 @@ each_within n f bound (t ∷ ts) a = (
 
     rest : (a b c : ℕ) → a + b ≤ c → b ≤ c
     rest a b c e = omega (arith, e)
-
-each_two : {A : Type 0} (P Q : A → Type 0) (xs : List A) → Each P xs → Each Q xs → Each (λ x. P x × Q x) xs
-each_two P Q [] a b = tt
-each_two P Q (x ∷ xs) a b = ((a.0, b.0), each_two P Q xs a.1 b.1)
 
 -- ---- counts of what is kept
 
@@ -146,10 +141,6 @@ waits_are n ys [] = refl
 waits_are n ys (z ∷ zs) = let h = waits_are n ys zs in one_wait n (kp.task ys z).parent (kp.task ys z).role (kp.task ys z).root
     (kp.task ys z).frames z.rest (map (kp.task ys) zs) ∙ ap (λ i. is_wait n z.rest + i) h
 
-eqn_same : (n : ℕ) → eqn n n ≡ true
-eqn_same zero = refl
-eqn_same (suc n) = eqn_same n
-
 apart : (m : ℕ) (ns : List ℕ) → occurs m ns ≤ 0 → Each (λ n. m ≢ n) ns
 apart m [] h = tt
 apart m (n ∷ ns) h = (
@@ -177,24 +168,20 @@ distinct (m ∷ ns) a = (
     fewer : (a b : ℕ) → a + b ≤ 1 → b ≤ 1
     fewer a b e = omega (arith, e)
 
-one_below : (b : Bool) → one b ≤ 1
-one_below true = omega arith
-one_below false = omega arith
-
-each_rooted : (left : ℕ) (tss : Forest) → TreesRooted left tss → Each (λ ts. Rooted left (whos ts)) tss
+pub each_rooted : (left : ℕ) (tss : Forest) → TreesRooted left tss → Each (λ ts. Rooted left (whos ts)) tss
 each_rooted left [] r = tt
 each_rooted left (ts ∷ tss) r = (r.0, each_rooted left tss r.2)
 
 -- ---- lines
 
-line_long : (l : Line) → 1 ≤ length (line_bytes l.moment l.bytes)
+pub line_long : (l : Line) → 1 ≤ length (line_bytes l.moment l.bytes)
 line_long l = let a = length-append (decimal l.moment) (32 ∷ (escaped l.bytes ++ 10 ∷ [])) in
     long (length (decimal l.moment)) (length (escaped l.bytes ++ 10 ∷ [])) (length (line_bytes l.moment l.bytes)) a
   where
     long : (a b n : ℕ) → n ≡ a + suc b → 1 ≤ n
     long a b n e = omega (arith, e)
 
-lines_few : (ls : List Line) → length ls ≤ length (printed ls)
+pub lines_few : (ls : List Line) → length ls ≤ length (printed ls)
 lines_few [] = omega arith
 lines_few (l ∷ ls) = more (length ls) (length (line_bytes l.moment l.bytes)) (length (printed ls)) (length (printed (l ∷ ls)))
     (length-append (line_bytes l.moment l.bytes) (printed ls)) (line_long l) (lines_few ls)
@@ -214,8 +201,8 @@ module _ (c : Code) (steps until : ℕ) (few : steps ≤ MOST_STEPS) (short : un
 
   names : Each (λ (y : Task). WhoIs y.thread.who) (walk ordered)
   names = of_all (λ (y : Task). WhoIs y.thread.who)
-      (each_as (λ ts. Each (TaskFine c a.scene s.clock.next) ts) (λ ts. Each (λ (y : Task). WhoIs y.thread.who) ts)
-      (λ ts b. each_as (TaskFine c a.scene s.clock.next) (λ (y : Task). WhoIs y.thread.who) (λ y d. d.still.named) ts b) tss a.trees)
+      (all_as (λ ts. Each (TaskFine c a.scene s.clock.next) ts) (λ ts. Each (λ (y : Task). WhoIs y.thread.who) ts)
+      (λ ts b. all_as (TaskFine c a.scene s.clock.next) (λ (y : Task). WhoIs y.thread.who) (λ y d. d.still.named) ts b) tss a.trees)
 
   roots_run : Each (RootRuns s.clock.results) (walk ordered)
   roots_run = each_within 0 (λ e (t : Task). is_task_of e t.thread.who.role) (λ e. unfinished (nth s.clock.results e)) (walk ordered)
@@ -231,15 +218,15 @@ module _ (c : Code) (steps until : ℕ) (few : steps ≤ MOST_STEPS) (short : un
   well = walk_well s.clock.left ordered (reordered_each (λ ts. Rooted s.clock.left (whos ts)) o (each_rooted s.clock.left tss a.rooted))
 
   tasks_fit : Each (λ y. TaskFits c (kept s ordered) (kp.task (walk ordered) y)) (walk ordered)
-  tasks_fit = each_as (λ y. (TaskFine c a.scene s.clock.next y × RootRuns s.clock.results y) ×
+  tasks_fit = all_as (λ y. (TaskFine c a.scene s.clock.next y × RootRuns s.clock.results y) ×
       (TaskLate until s y × ((e : ℕ) → suc (length y.thread.below) ≤ s.clock.spent)))
       (λ y. TaskFits c (kept s ordered) (kp.task (walk ordered) y))
       (λ y b. task_fits c until a.scene s a.state ordered (walk ordered) y names b.0.0 b.0.1 b.1.0 (b.1.1 0)) (walk ordered)
-      (each_two (λ y. TaskFine c a.scene s.clock.next y × RootRuns s.clock.results y)
+      (each_both (λ y. TaskFine c a.scene s.clock.next y × RootRuns s.clock.results y)
       (λ y. TaskLate until s y × ((e : ℕ) → suc (length y.thread.below) ≤ s.clock.spent)) (walk ordered)
-      (each_two (TaskFine c a.scene s.clock.next) (RootRuns s.clock.results) (walk ordered)
+      (each_both (TaskFine c a.scene s.clock.next) (RootRuns s.clock.results) (walk ordered)
       (of_all (TaskFine c a.scene s.clock.next) a.trees) roots_run)
-      (each_two (TaskLate until s) (λ (t : Task). (e : ℕ) → suc (length t.thread.below) ≤ s.clock.spent) (walk ordered)
+      (each_both (TaskLate until s) (λ (t : Task). (e : ℕ) → suc (length t.thread.below) ≤ s.clock.spent) (walk ordered)
       (of_all (TaskLate until s) late) frames_few))
 
   pub fits_apart : FitsApart c (kept s ordered)
@@ -261,7 +248,7 @@ module _ (c : Code) (steps until : ℕ) (few : steps ≤ MOST_STEPS) (short : un
     waits = distinct (waits_in (map (kp.task (walk ordered)) (walk ordered)))
         (λ n. no_more (occurs n (waits_in (map (kp.task (walk ordered)) (walk ordered)))) _ (one (ltn n s.clock.next))
         (waits_are n (walk ordered) (walk ordered) ∙ all_sum (λ (t : Task). is_wait n t.rest) o) (a.waits n)
-        (one_below (ltn n s.clock.next)));
+        (one_most (ltn n s.clock.next)));
     few_frames = at_most (frames_in (map (kp.task (walk ordered)) (walk ordered))) _ _
         (frames_are c (walk ordered) (walk ordered) ∙ all_sum (λ (t : Task). suc (length t.thread.below)) o) a.few_frames;
     parents = parents_fit (walk ordered) names well;

@@ -4,17 +4,20 @@ use Rattle.std.proofs.Common.{false}
 use Rattle.std.proofs.Common.{cond, refl, sym, subst, ap, ◌∙◌, arith, option_map, ◌⊎◌}
 use Rattle.std.specs.Prelude.{pred, ◌&&◌, ◌≢◌, eqb}
 use mathlib.Core.Logic.{inl, inr}
-use Rattle.std.proofs.lemmas.List.{length-append, append_assoc}
+use Rattle.std.proofs.lemmas.List.{append_assoc}
 use Rattle.task_tree.specs.Tasks.{is_child}
 use Rattle.task_tree.specs.declared.tasks.Role as r
 use Rattle.task_tree.specs.declared.tasks.Role.TheVariants.{Root, Arm, Behind}
 use Rattle.verse_code.specs.declared.codes.Code.{Code}
 use Rattle.std.proofs.lemmas.Bool.Decides.{eqb_tells}
+use Rattle.std.proofs.lemmas.Option.{same_Some}
+use Rattle.verse_base.proofs.Facts.{length_more, append_one}
 use Rattle.verse_meaning_state.specs.State.{Given}
-use Rattle.verse_code_machine_parents.proofs.Lists.{eqn_is, eqn_same}
 use Rattle.verse_meaning_state.specs.Waits.{nth, ltn, eqn}
+use Rattle.verse_meaning_state.proofs.Numbers.{eqn_is, eqn_same}
 use Rattle.verse_code_machine.specs.Tasks.{Frame, Role, root, part, Who, Task, same_path}
 use Rattle.verse_code_machine.specs.Runs.{Forest}
+use Rattle.verse_code_machine.proofs.Paths.{same_self}
 use Rattle.verse_code_machine_parents.specs.Parents.{whos, HasParent, here, later, Rooted, rooted_root, rooted_part, TreesRooted}
 use Rattle.run_save_shots.specs.Lists.{Each, EachAt, count}
 use Rattle.run_save_shots.specs.Kept.{KeptTask}
@@ -22,8 +25,7 @@ use Rattle.run_save_shots.specs.Fitting.{DepthFits, frames_of, ParentBefore, is_
 use Rattle.run_save_shots.specs.Keeping as kp
 use Rattle.run_save_shots.specs.Keeping.{behind_parent, walked, walk, place_of, task_of, role_in, arm_or, depth_of, entry_of}
 use Rattle.run_save_fits.specs.Held.{IsSome, RoleIs, WhoIs, tasks_sum, is_main, is_task_of, unfinished, one}
-use Rattle.run_save_fits.proofs.Holding.{each_more}
-use Rattle.run_save_fits.proofs.KeptTasks.{each_map, frames_number, map_length, no_place}
+use Rattle.run_save_fits.proofs.KeptTasks.{each_map, frames_number, no_place}
 
 -- ---- the task at a place
 
@@ -33,12 +35,9 @@ pub record Stands (path : List ℕ) (ys : List Task) (p : ℕ) : Type 0 where
   pub at_place : nth ys p ≡ Some task
   pub is_found : task_of path ys ≡ Some task
 
-some_is : {A : Type 0} (x y : A) → Some x ≡ Some y → x ≡ y
-some_is x y e = cc
-
 suc_of : (o : Option ℕ) (p : ℕ) → option_map suc o ≡ Some p → (q : ℕ) × (o ≡ Some q) × (p ≡ suc q)
 suc_of None p e = absurd (cc)
-suc_of (Some q) p e = (q, refl, sym (some_is (suc q) p e))
+suc_of (Some q) p e = (q, refl, sym (same_Some (suc q) p e))
 
 place_stands : (path : List ℕ) (ys : List Task) (p : ℕ) → place_of path ys ≡ Some p → Stands path ys p
 place_stands path [] p e = absurd (cc)
@@ -46,7 +45,7 @@ place_stands path (y ∷ ys) p e = two (same_path path y.thread.who.path) refl e
   where
     two : (b : Bool) → same_path path y.thread.who.path ≡ b → cond b (Some 0) (option_map suc (place_of path ys)) ≡ Some p →
         ((q : ℕ) → place_of path ys ≡ Some q → Stands path ys q) → Stands path (y ∷ ys) p
-    two true g f h = subst (Stands path (y ∷ ys)) (some_is 0 p f) (record {
+    two true g f h = subst (Stands path (y ∷ ys)) (same_Some 0 p f) (record {
       task = y;
       at_place = refl;
       is_found = ap (λ b. cond b (Some y) (task_of path ys)) g;
@@ -80,7 +79,7 @@ behind_is (Some p) e d h = absurd (cc)
 
 at_map : (f : Task → KeptTask) (ys : List Task) (p : ℕ) (y : Task) → nth ys p ≡ Some y → nth (map f ys) p ≡ Some (f y)
 at_map f [] p y e = absurd (cc)
-at_map f (x ∷ ys) zero y e = ap (λ x. Some (f x)) (some_is x y e)
+at_map f (x ∷ ys) zero y e = ap (λ x. Some (f x)) (same_Some x y e)
 at_map f (x ∷ ys) (suc p) y e = at_map f ys p y e
 
 depth_fits : (c : Code) (ys : List Task) (y : Task) → DepthFits (map (kp.task ys) ys) (kp.task ys y)
@@ -108,7 +107,7 @@ abbrev pub IsIn : List ℕ → List Task → Type 0
 IsIn path [] = ⊥
 IsIn path (x ∷ xs) = (same_path path x.thread.who.path ≡ true) ⊎ IsIn path xs
 
-in_front : (path : List ℕ) (xs ys : List Task) → IsIn path xs → IsIn path (xs ++ ys)
+pub in_front : (path : List ℕ) (xs ys : List Task) → IsIn path xs → IsIn path (xs ++ ys)
 in_front path (x ∷ xs) ys (inl e) = inl e
 in_front path (x ∷ xs) ys (inr h) = inr (in_front path xs ys h)
 in_front path [] ys h = absurd h
@@ -177,14 +176,6 @@ put_behind y (x ∷ zs) seen a b = two (same_path y.thread.who.up x.thread.who.p
     )
     two false e h = (b.0, h)
 
-same_self : (path : List ℕ) → same_path path path ≡ true
-same_self [] = refl
-same_self (i ∷ path) = two (eqn i i) (eqn_same i) (same_self path)
-  where
-    two : (b : Bool) → b ≡ true → same_path path path ≡ true → cond b (same_path path path) false ≡ true
-    two true e f = f
-    two false e f = absurd (cc)
-
 -- a parent that stands is in the list, in any order
 has_in : (up : List ℕ) (n : ℕ) (ts : List Task) → HasParent up n (whos ts) → IsIn up ts
 has_in up n [] h = elim h [ ]
@@ -222,7 +213,7 @@ rooted_rest : (left : ℕ) (w : Who) (ws : List Who) → Rooted left (w ∷ ws) 
 rooted_rest left w ws (rooted_root e f g h) = h
 rooted_rest left w ws (rooted_part e f g h i) = i
 
-walked_well : (left : ℕ) (ts : List Task) → Rooted left (whos ts) → InWalk [] (walked ts)
+pub walked_well : (left : ℕ) (ts : List Task) → Rooted left (whos ts) → InWalk [] (walked ts)
 walked_well left [] r = tt
 walked_well left (y ∷ ys) r = put_behind y (walked ys) []
     (follows_more y.thread.who.role y.thread.who.up ys (walked ys) (λ path h. walked_in path ys h)
@@ -266,16 +257,6 @@ seen_place path (x ∷ xs) ys h = two (same_path path x.thread.who.path) refl h 
       omega (arith, b),
     )
 
-joined_end : (xs : List Task) (x : Task) (zs : List Task) → xs ++ x ∷ zs ≡ (xs ++ x ∷ []) ++ zs
-joined_end [] x zs = refl
-joined_end (y ∷ xs) x zs = ap (λ ys. y ∷ ys) (joined_end xs x zs)
-
-one_longer : (xs : List Task) (x : Task) → length (xs ++ x ∷ []) ≡ suc (length xs)
-one_longer xs x = length-append xs (x ∷ []) ∙ sums (length xs)
-  where
-    sums : (n : ℕ) → n + 1 ≡ suc n
-    sums n = omega arith
-
 eqn_not : (a b : ℕ) → a ≢ b → eqn a b ≡ false
 eqn_not a b n = two (eqn a b) refl
   where
@@ -300,15 +281,15 @@ module _ (ys : List Task) (names : Each (λ (y : Task). WhoIs y.thread.who) ys) 
       none None p e f = cc
       none (Some q) p e f = cc
   parent_before front y rest e part a b p f = let s = seen_place y.thread.who.up front (y ∷ rest) b in
-      subst (λ n. n < length front) (some_is s.0 p (sym s.1 ∙ (ap (place_of y.thread.who.up) (sym e) ∙ f))) s.2
+      subst (λ n. n < length front) (same_Some s.0 p (sym s.1 ∙ (ap (place_of y.thread.who.up) (sym e) ∙ f))) s.2
 
   parents_from : (front rest : List Task) → ys ≡ front ++ rest → Each (λ (y : Task). WhoIs y.thread.who) rest → InWalk front rest →
       EachAt ParentBefore (length front) (map (kp.task ys) rest)
   parents_from front [] e a b = tt
   parents_from front (y ∷ rest) e a b = (
     parent_before front y rest e y.thread.who.role a.0 b.0,
-    subst (λ n. EachAt ParentBefore n (map (kp.task ys) rest)) (one_longer front y)
-        (parents_from (front ++ y ∷ []) rest (e ∙ joined_end front y rest) a.1 b.1),
+    subst (λ n. EachAt ParentBefore n (map (kp.task ys) rest)) (length_more front y)
+        (parents_from (front ++ y ∷ []) rest (e ∙ append_one front y rest) a.1 b.1),
   )
 
   pub parents_fit : InWalk [] ys → EachAt ParentBefore 0 (map (kp.task ys) ys)
@@ -335,7 +316,7 @@ module _ (ys : List Task) (names : Each (λ (y : Task). WhoIs y.thread.who) ys) 
       count (is_root None) (map (kp.task ys) rest) ≤ tasks_sum (λ (t : Task). is_main t.thread.who.role) rest
   main_from front [] e b = omega arith
   main_from front (y ∷ rest) e b = one_root front y rest e y.thread.who.role b.0 (count (is_root None) (map (kp.task ys) rest))
-      (tasks_sum (λ (t : Task). is_main t.thread.who.role) rest) (main_from (front ++ y ∷ []) rest (e ∙ joined_end front y rest) b.1)
+      (tasks_sum (λ (t : Task). is_main t.thread.who.role) rest) (main_from (front ++ y ∷ []) rest (e ∙ append_one front y rest) b.1)
 
   pub main_fits : InWalk [] ys → count (is_root None) (map (kp.task ys) ys) ≤ tasks_sum (λ (t : Task). is_main t.thread.who.role) ys
   main_fits a = main_from [] ys refl a

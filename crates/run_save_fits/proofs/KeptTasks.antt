@@ -5,7 +5,7 @@ use Rattle.std.proofs.Common.{false, cond, refl, sym, subst, ap, ◌∙◌, arit
 use Rattle.std.specs.Prelude.{pred, slice_get}
 use mathlib.Core.Logic.{inl, inr}
 use mathlib.Core.List.{reverse-cons}
-use Rattle.std.proofs.lemmas.List.{length-append, length-reverse}
+use Rattle.std.proofs.lemmas.List.{length-append, length-reverse, length-map}
 use Rattle.task_tree.specs.Tasks.{suits}
 use Rattle.task_tree.specs.declared.tasks.Role as r
 use Rattle.task_tree.specs.declared.tasks.Role.TheVariants.{Root, Arm, Behind}
@@ -13,7 +13,7 @@ use Rattle.verse_base.specs.declared.places.Place.{Place}
 use Rattle.verse_code.specs.declared.codes.Code.{Code}
 use Rattle.verse_value.specs.Val.{Val}
 use Rattle.verse_meaning_state.specs.State.{State, Given}
-use Rattle.verse_meaning_state.specs.Waits.{Cause, till, never, done, heard, Wait, nth, eqn, given_by, due_of}
+use Rattle.verse_meaning_state.specs.Waits.{Cause, till, never, done, heard, Wait, nth, given_by, due_of}
 use Rattle.verse_meaning_state.specs.Turns.{Kind, sync}
 use Rattle.verse_code_machine.specs.Tasks.{Frame, Role, root, part, Who, Part, did, runs, Rest, asleep, group, Task, same_path}
 use Rattle.verse_code_machine.specs.Frames.{behind}
@@ -25,29 +25,28 @@ use Rattle.run_save_shots.specs.Kept as k
 use Rattle.run_save_shots.specs.Kept.{KeptFrame, KeptRest, KeptTask, Kept}
 use Rattle.run_save_shots.specs.Fitting.{ValueFits, ArmFits, IsBlock, FrameFits, FramesSuit, RestSuits, Stand, calls, gathers, stand_at}
 use Rattle.run_save_shots.specs.Fitting.{CauseFits}
-use Rattle.run_save_shots.specs.Fitting.{is_running, GroupStands, RestFits, top_place, RootFits, TaskFits}
+use Rattle.run_save_shots.specs.Fitting.{is_running, GroupStands, RestFits, RootFits, TaskFits}
 use Rattle.run_save_shots.specs.Keeping as kp
 use Rattle.run_save_shots.specs.Keeping.{kept, place_of, task_of, role_in, arm_or, entry_of}
 use Rattle.verse_base.specs.declared.limits.TheConstants.{MOST_NOW}
+use Rattle.verse_meaning_state.proofs.Numbers.{eqn_same}
+use Rattle.run_save_shots.proofs.Lists.{each_join}
+use Rattle.run_save_shots.proofs.Steps.{top_is}
 use Rattle.run_save_moves.specs.Fine.{Scene, IsEvent}
 use Rattle.run_save_moves.specs.Moves.{BehindCall, BehindWait, BehindGroup, NotYet, PartFits}
 use Rattle.run_save_fits.specs.Held.{Has, IsSome, RoleIs, WhoIs, NoLater, FrameStill, LowerStill, CauseFine, RestFine, TaskFine, StateHeld}
 use Rattle.run_save_fits.specs.Held.{is_task_of, unfinished, one}
-use Rattle.run_save_fits.proofs.Holding.{each_more, role_some}
+use Rattle.run_save_fits.proofs.Holding.{role_some}
 
 -- ---- lists
 
 pub each_reverse : {A : Type 0} (P : A → Type 0) (xs : List A) → Each P xs → Each P (reverse xs)
 each_reverse P [] a = tt
-each_reverse P (x ∷ xs) a = subst (Each P) (sym (reverse-cons x xs)) (each_more P (reverse xs) (x ∷ []) (each_reverse P xs a.1) (a.0, tt))
+each_reverse P (x ∷ xs) a = subst (Each P) (sym (reverse-cons x xs)) (each_join P (reverse xs) (x ∷ []) (each_reverse P xs a.1) (a.0, tt))
 
 pub each_map : {A B : Type 0} (P : B → Type 0) (f : A → B) (xs : List A) → Each (λ x. P (f x)) xs → Each P (map f xs)
 each_map P f [] a = tt
 each_map P f (x ∷ xs) a = (a.0, each_map P f xs a.1)
-
-pub map_length : {A B : Type 0} (f : A → B) (xs : List A) → length (map f xs) ≡ length xs
-map_length f [] = refl
-map_length f (x ∷ xs) = ap suc (map_length f xs)
 
 cond_no : {A : Type 0} (b : Bool) (x y : A) → b ≡ false → cond b x y ≡ y
 cond_no true x y e = absurd (cc)
@@ -83,10 +82,6 @@ no_place [] a = refl
 no_place (y ∷ ys) a = cond_no (same_path [] y.thread.who.path) (Some 0) (option_map suc (place_of [] ys))
     (not_empty y.thread.who.path (role_some y.thread.who.role y.thread.who a.0)) ∙ ap (option_map suc) (no_place ys a.1)
 
-eqn_same : (n : ℕ) → eqn n n ≡ true
-eqn_same zero = refl
-eqn_same (suc n) = eqn_same n
-
 running_below : (rs : List (Option Given)) (e : ℕ) → 1 ≤ unfinished (nth rs e) → e < length rs
 running_below [] e h = absurd (omega (arith, h))
 running_below (r ∷ rs) zero h = omega arith
@@ -118,13 +113,13 @@ RestLate m s (group k p gs) = Unit {0}
 
 -- ---- its frames
 
-less : (q p n : ℕ) → q ≡ suc p + n → pred (q - n) ≡ p
+pub less : (q p n : ℕ) → q ≡ suc p + n → pred (q - n) ≡ p
 less q p n e = ap pred (minus q p n e)
   where
     minus : (q p n : ℕ) → q ≡ suc p + n → q - n ≡ suc p
     minus q p n e = omega (arith, e)
 
-none_more : (q p : ℕ) → q ≡ suc p → q ≡ suc p + 0
+pub none_more : (q p : ℕ) → q ≡ suc p → q ≡ suc p + 0
 none_more q p e = omega (arith, e)
 
 module _ (c : Code) where
@@ -144,14 +139,9 @@ module _ (c : Code) where
   suit_above rest (x ∷ []) f a b = (a.0, b)
   suit_above rest (x ∷ y ∷ xs) f a b = (a.0, suit_above rest (y ∷ xs) f a.1 b)
 
-  top_is : (xs : List KeptFrame) (f : KeptFrame) → top_place (xs ++ f ∷ []) ≡ f.place
-  top_is [] f = refl
-  top_is (x ∷ []) f = refl
-  top_is (x ∷ y ∷ xs) f = top_is (y ∷ xs) f
-
   pub frames_number : (y : Task) → length (kp.task [] y).frames ≡ suc (length y.thread.below)
   frames_number y = length-append (map (kp.frame 0) (reverse y.thread.below)) (kp.frame (kp.arms_behind y.rest) y.thread.frame ∷ []) ∙
-      sums _ _ (map_length (kp.frame 0) (reverse y.thread.below) ∙ length-reverse y.thread.below)
+      sums _ _ (length-map (reverse y.thread.below) (kp.frame 0) ∙ length-reverse y.thread.below)
     where
       sums : (n m : ℕ) → n ≡ m → n + 1 ≡ suc m
       sums n m e = omega (arith, e)
@@ -173,7 +163,7 @@ module _ (c : Code) where
   all_run (runs n ∷ gs) e = ap suc (all_run gs e)
 
   first_runs : (gs : List Part) → first_did gs ≡ None → 1 ≤ length gs → 1 ≤ count is_running (map kp.arm gs)
-  first_runs gs e h = subst (λ n. 1 ≤ n) (sym (all_run gs e ∙ map_length kp.arm gs)) h
+  first_runs gs e h = subst (λ n. 1 ≤ n) (sym (all_run gs e ∙ length-map gs kp.arm)) h
 
   group_stands : (n m p : ℕ) (gs : List Part) → NotYet (kind_of n) gs → 1 ≤ length gs → GroupStands (gathers n m p) (map kp.arm gs)
   group_stands zero m p gs e h = (one_runs gs e, inl refl)
@@ -213,7 +203,7 @@ module _ (c : Code) where
         subst (λ i. RestSuits (stand_at c i) (k.leaf w.number w.cause)) (sym (less place b.0 0 (none_more place b.0 b.1))) (b.2 w.number)
     rest_suits place (group j p gs) a = let b = a.0 in
         subst (λ i. RestSuits (stand_at c i) (k.group (map kp.arm gs))) (sym (less place b.index (length gs) b.is_behind))
-        (subst (λ t. RestSuits t (k.group (map kp.arm gs))) (sym b.stand) (map_length kp.arm gs))
+        (subst (λ t. RestSuits t (k.group (map kp.arm gs))) (sym b.stand) (length-map gs kp.arm))
 
     rest_fits : (place : ℕ) (q : Rest) → RestFine c z s.clock.next place q → RestLate until s q →
         RestFits (kept s ordered) (stand_at c (pred (place - kp.arms_behind q))) (kp.rest q)
@@ -237,7 +227,7 @@ module _ (c : Code) where
           (each_reverse (λ (f : Frame). stand_at c (kp.frame 0 f).place ≡ calls) y.thread.below (lower_calls y.thread.below a.still.below)))
           (rest_suits y.thread.frame.place y.rest a.rest);
       frames = subst (λ n. Each (FrameFits c n) (kp.task ys y).frames) (sym held.fine.entries)
-          (each_more (FrameFits c z.entries) (map (kp.frame 0) (reverse y.thread.below))
+          (each_join (FrameFits c z.entries) (map (kp.frame 0) (reverse y.thread.below))
           (kp.frame (kp.arms_behind y.rest) y.thread.frame ∷ [])
           (each_map (FrameFits c z.entries) (kp.frame 0) (reverse y.thread.below)
           (each_reverse (λ (f : Frame). FrameFits c z.entries (kp.frame 0 f)) y.thread.below (lower_fits y.thread.below a.still.below)))

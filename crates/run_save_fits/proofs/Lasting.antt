@@ -24,11 +24,11 @@ use Rattle.run_save_fits.proofs.Holding.{role_some}
 
 -- ---- a task of its own is never cancelled
 
-none_starts : (a : List ℕ) (n : ℕ) → starts (a ++ n ∷ []) [] ≡ false
+pub none_starts : (a : List ℕ) (n : ℕ) → starts (a ++ n ∷ []) [] ≡ false
 none_starts [] n = refl
 none_starts (x ∷ a) n = refl
 
-none_since : (a : List ℕ) (b : ℕ) → since a b [] ≡ false
+pub none_since : (a : List ℕ) (b : ℕ) → since a b [] ≡ false
 none_since [] b = refl
 none_since (x ∷ a) b = refl
 

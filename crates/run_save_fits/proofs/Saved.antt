@@ -3,7 +3,6 @@ use Rattle.std.proofs.Common.{◌≡◌, ℕ, zero, suc, ◌+◌, ◌≤◌, len
 use Rattle.std.proofs.Common.{nat_lt}
 use Rattle.std.proofs.Common.{refl, sym, subst, ap, arith}
 use Rattle.std.specs.Prelude.{ℤ, ◌-◌, slice_get}
-use Rattle.std.proofs.lemmas.Bool.Decides.{nat_tests}
 use Rattle.verse_code.specs.declared.codes.Func.{Func}
 use Rattle.verse_code.specs.declared.codes.Code.{Code}
 use Rattle.verse_code.specs.Validity.{Valid}
@@ -20,6 +19,8 @@ use Rattle.verse_code_machine_parents.specs.Parents.{StageRooted}
 use Rattle.run_save_shots.specs.Lists.{Each}
 use Rattle.run_save_shots.specs.Fitting.{ValueFits, ValuesFit, GivenFits, AreSound}
 use Rattle.verse_base.specs.declared.limits.TheConstants.{MOST_NOW}
+use Rattle.verse_base.proofs.Facts.{nat_lt_not}
+use Rattle.run_save_shots.proofs.Lists.{all_as}
 use Rattle.run_save_moves.specs.Fine.{Scene, TextsAreBytes}
 use Rattle.run_save_fits.specs.Held as d
 use Rattle.run_save_fits.specs.Held.{Savable, StateHeld, NoLater, trees_sum}
@@ -32,7 +33,6 @@ use Rattle.run_save_fits.proofs.Measures as w
 use Rattle.run_save_fits.proofs.Counted.{all_tasks, all_frames, all_drawn, all_entries, wait_of, task_of, main_task, sum_below, sum_above}
 use Rattle.run_save_fits.proofs.Counted.{lines_before}
 use Rattle.run_save_fits.proofs.Holding as h
-use Rattle.run_save_fits.proofs.Holding.{each_as}
 use Rattle.run_save_fits.proofs.Lasting as l
 use Rattle.run_save_fits.proofs.Turning as t
 
@@ -101,9 +101,6 @@ inputs_fit : (n i : ℕ) (ns : List ℤ) → InputsFit ns → ValuesFit n (input
 inputs_fit n zero ns a = tt
 inputs_fit n (suc i) ns a = (record { small = a; sound = ints_sound n ns }, tt)
 
-no_later : (until moment : ℕ) → nat_lt until moment ≡ false → moment ≤ until
-no_later until moment e = grind (arith, nat_tests, e)
-
 plain : (a b : ℕ) → a + 0 ≤ b → a ≤ b
 plain a b e = omega (arith, e)
 
@@ -157,7 +154,7 @@ module _ (c : Code) (valid : Valid c) (bytes : TextsAreBytes c) where
             results = b.fine.results;
             signals = b.fine.signals;
           };
-          now = no_later until d.given.moment g;
+          now = nat_lt_not until d.given.moment g;
           results = b.results;
         },
         subst (DueFits z.entries) f (least_fits z.entries s (tree_waits tss) b.fine.results b.fine.signals),
@@ -326,7 +323,7 @@ module _ (c : Code) (valid : Valid c) (bytes : TextsAreBytes c) where
         record {
           fine = a.state.fine;
           now = between s.clock.now u until a.state.now le;
-          results = each_as (NoLater u) (NoLater until) later s.clock.results a.state.results;
+          results = all_as (NoLater u) (NoLater until) later s.clock.results a.state.results;
         },
         a.trees,
       ),

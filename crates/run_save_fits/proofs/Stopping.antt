@@ -6,33 +6,18 @@ use Rattle.verse_code.specs.declared.codes.Code.{Code}
 use Rattle.verse_value.specs.declared.runs.Ending.{Ending}
 use Rattle.verse_value.specs.declared.runs.Ending.TheVariants as ending
 use Rattle.verse_meaning_state.specs.State.{State, Given, spending, at_moment}
-use Rattle.verse_meaning_state.specs.Waits.{Wait, due_of, Due, least, sooner, sooner_of}
+use Rattle.verse_meaning_state.specs.Waits.{Wait, due_of, Due, least, sooner_of}
 use Rattle.verse_meaning_state.specs.Turns.{Stage, going, closed, broken, amiss, turn, turn_at, turns}
+use Rattle.verse_meaning_state.proofs.Dues.{DueBehind, sooner_behind}
 use Rattle.verse_code_machine.specs.Tasks.{Rest, asleep, group, Task, Step, Next, Over, Turn, waits_of, waits_with, tree_waits}
 use Rattle.verse_code_machine.specs.Ends.{woken_in}
 use Rattle.verse_code_machine.specs.Runs.{carried, room, Forest, stage_of, turn_taken}
 use Rattle.run_save_shots.specs.Lists.{Each}
-use Rattle.run_save_fits.proofs.Holding.{each_front, each_back}
+use Rattle.run_save_shots.proofs.Lists.{each_front, each_back}
 use Rattle.run_save_fits.proofs.KeptTasks.{Behind_, RestLate}
 
 abbrev AllBehind : ℕ → State → List Wait → Type 0
 AllBehind m s ws = Each (λ (w : Wait). Behind_ m (due_of s w.number w.cause)) ws
-
-abbrev DueBehind : ℕ → Option Due → Type 0
-DueBehind m None = Unit {0}
-DueBehind m (Some d) = m < d.given.moment
-
-sooner_behind : (m n : ℕ) (g : Given) (o : Option Due) → DueBehind m (sooner n g o) → (m < g.moment) × DueBehind m o
-sooner_behind m n g None h = (h, tt)
-sooner_behind m n g (Some d) h = at (nat_lt d.given.moment g.moment) (nat_lt g.moment d.given.moment) (nat_lt d.number n) refl refl h
-  where
-    at : (a b c : Bool) → nat_lt d.given.moment g.moment ≡ a → nat_lt g.moment d.given.moment ≡ b →
-        DueBehind m (cond a (Some d) (cond b (Some (record { number = n; given = g }))
-        (cond c (Some d) (Some (record { number = n; given = g }))))) → (m < g.moment) × (m < d.given.moment)
-    at true b c e f h = (grind (arith, nat_tests, e, h), h)
-    at false true c e f h = (h, grind (arith, nat_tests, f, h))
-    at false false true e f h = (grind (arith, nat_tests, e, f, h), h)
-    at false false false e f h = (h, grind (arith, nat_tests, e, f, h))
 
 of_behind : (m n : ℕ) (g : Option Given) (o : Option Due) → DueBehind m (sooner_of n g o) → Behind_ m g × DueBehind m o
 of_behind m n None o h = (tt, h)

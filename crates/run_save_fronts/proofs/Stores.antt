@@ -1,15 +1,15 @@
 -- Cells and spawned entries of a front.
-use Rattle.std.proofs.Common.{◌≡◌, ℕ, ◌+◌, ◌≤◌, List, [], ◌∷◌, ◌++◌, length, Option, Some, None, slice_get, Ok, refl, sym, ap, subst}
+use Rattle.std.proofs.Common.{◌≡◌, ℕ, ◌+◌, List, [], ◌∷◌, ◌++◌, length, Option, Some, None, slice_get, Ok, refl, sym, ap, subst}
 use Rattle.std.proofs.Common.{length-append}
 use Rattle.verse_image.specs.Reading.{Reader, digits_at}
 use Rattle.verse_code.specs.declared.codes.Class.{Class}
-use Rattle.run_save_shots.specs.Lists.{Each}
 use Rattle.run_save_format.specs.declared.forms.CellForm.{CellForm}
 use Rattle.run_save_format.specs.declared.forms.CellForm.TheVariants as of_cell
 use Rattle.run_save_format.specs.declared.weights.Where.TheVariants as place
 use Rattle.run_save_format.specs.Values.{wide_at, choice_at, value_at}
 use Rattle.run_save_format.specs.Reading.{cell_at, cell_forms, cells_at, entry_at, given_at, kind_at, kind_form_at, noted_at, object_of}
 use Rattle.run_save_format.specs.Reading.{spawned_at}
+use Rattle.run_save_format.proofs.Lefts.{AllLeft, Noted, one_more_left}
 use Rattle.run_save_fronts.proofs.Staying.{Place, Stays, reads, fails, stays_then, Both, Local, HasByte, first_then}
 use Rattle.run_save_fronts.proofs.Numbers.{FewWith, with_other, BothWith, wide_stays, in_first, in_stays, most_stays, small_stays}
 use Rattle.run_save_fronts.proofs.Numbers.{choice_stays, each_with, each_stays, maybe_stays}
@@ -17,25 +17,15 @@ use Rattle.run_save_fronts.proofs.Values.{in_cell, weighed_stays, value_stays, f
 
 -- ---- how many bytes were left at each
 
-abbrev pub AllLeft : ℕ → List ℕ → Type 0
-AllLeft most lefts = Each (λ left. left ≤ most) lefts
-
 -- with more bytes behind them
 abbrev pub further : List ℕ → List ℕ → List ℕ
 further more [] = []
 further more (left ∷ lefts) = (left + length more) ∷ further more lefts
 
-one_more_left : (most left : ℕ) (lefts : List ℕ) → AllLeft most lefts → left ≤ most → AllLeft most (lefts ++ left ∷ [])
-one_more_left most left [] all low = (low, tt)
-one_more_left most left (other ∷ lefts) all low = (all.0, one_more_left most left lefts all.1 low)
-
 one_further : (more bytes lefts : List ℕ) →
     further more lefts ++ length (bytes ++ more) ∷ [] ≡ further more (lefts ++ length bytes ∷ [])
 one_further more bytes [] = ap (λ n. n ∷ []) (length-append bytes more)
 one_further more bytes (left ∷ lefts) = ap (λ ls. (left + length more) ∷ ls) (one_further more bytes lefts)
-
-abbrev pub Noted : {S : Type 0} → ℕ → S × List ℕ → Type 0
-Noted most s = AllLeft most s.1
 
 abbrev pub noted_further : {S : Type 0} → List ℕ → S × List ℕ → S × List ℕ
 noted_further more s = (s.0, further more s.1)

@@ -7,11 +7,12 @@ use Rattle.run_save_format.specs.Values.{small_where}
 use Rattle.run_save_format.specs.Reading.{Known, cause_form, cause_of, contains, defers_at, form_at, frame_at, frames_at, frames_from}
 use Rattle.run_save_format.specs.Reading.{free_value_at, group_at, is_block, is_entry, is_event, is_running, leaf_at, maybe_at}
 use Rattle.run_save_format.specs.Reading.{may_stand, noted_at, place_at, rest_at, root_at, standing_at, task_at, tasks_at, wait_at}
+use Rattle.run_save_format.proofs.Lefts.{AllLeft, Noted}
 use Rattle.run_save_fronts.proofs.Staying.{reads, fails, stays_then, stays_if, Local, first_then}
 use Rattle.run_save_fronts.proofs.Numbers.{BothWith, wide_first, wide_stays, in_first, in_stays, most_stays, small_stays, flag_stays}
 use Rattle.run_save_fronts.proofs.Numbers.{where_stays, optional_first, optional_stays, each_with, many_stays, maybe_stays}
 use Rattle.run_save_fronts.proofs.Values.{free_stays, frees_stay}
-use Rattle.run_save_fronts.proofs.Stores.{AllLeft, further, Noted, noted_further, noted_stays}
+use Rattle.run_save_fronts.proofs.Stores.{further, noted_further, noted_stays}
 
 module _ {more : List ℕ} {most : ℕ} where
   form_stays : (forms form : ℕ) → Local more most (form_at forms form)

@@ -1,6 +1,6 @@
 -- The code, the numbers and all parts of a front, and the rules on the whole list.
-use Rattle.std.proofs.Common.{◌≡◌, ℕ, zero, suc, ◌+◌, ◌-◌, ◌≤◌, eqb, List, [], ◌∷◌, ◌++◌, length, Option, Some, None}
-use Rattle.std.proofs.Common.{slice_get, Result, Ok, Err, arith, length-append}
+use Rattle.std.proofs.Common.{◌≡◌, ℕ, ◌+◌, ◌-◌, ◌≤◌, eqb, List, [], ◌∷◌, ◌++◌, length, Option, Some, None}
+use Rattle.std.proofs.Common.{Result, Ok, Err, arith, length-append}
 use Rattle.verse_base.specs.declared.limits.TheConstants.{MOST_TRACE_BYTES}
 use Rattle.verse_code.specs.declared.codes.Code.{Code}
 use Rattle.verse_image.specs.declared.faults.Flaw.{Flaw}
@@ -10,28 +10,11 @@ use Rattle.run_save_shots.specs.Kept.{Kept}
 use Rattle.run_save_format.specs.Format.{mark}
 use Rattle.run_save_format.specs.Reading.{Found, code_at, coded, ended, is_written, numbers_at, parts_found_at}
 use Rattle.run_save_format.specs.Whole.{broken, broken_cell, broken_entry, broken_task, left_at, or_else, run_at, whole}
+use Rattle.run_save_format.proofs.Lefts.{AllLeft, IfLeft, or_left, some_left}
 use Rattle.run_save_fronts.proofs.Staying.{Place, at_first, Stays, reads, ends, fails, no_code, breaks, stays_then, stays_if, Local}
 use Rattle.run_save_fronts.proofs.Numbers.{wide_stays, most_stays, piece_stays}
-use Rattle.run_save_fronts.proofs.Stores.{AllLeft, cells_stay, spawned_stays}
+use Rattle.run_save_fronts.proofs.Stores.{cells_stay, spawned_stays}
 use Rattle.run_save_fronts.proofs.Tasks.{tasks_stay}
-
--- a place that is left, if one is
-abbrev IfLeft : ℕ → Option ℕ → Type 0
-IfLeft most None = Unit {0}
-IfLeft most (Some left) = left ≤ most
-
-one_left : (most : ℕ) (lefts : List ℕ) (n : ℕ) → AllLeft most lefts → IfLeft most (slice_get lefts n)
-one_left most [] n all = tt
-one_left most (left ∷ lefts) zero all = all.0
-one_left most (left ∷ lefts) (suc n) all = one_left most lefts n all.1
-
-some_left : (most : ℕ) (lefts : List ℕ) (o : Option ℕ) → AllLeft most lefts → IfLeft most (left_at lefts o)
-some_left most lefts None all = tt
-some_left most lefts (Some n) all = one_left most lefts n all
-
-or_left : (most : ℕ) (o other : Option ℕ) → IfLeft most o → IfLeft most other → IfLeft most (or_else o other)
-or_left most None other p q = q
-or_left most (Some left) other p q = p
 
 record PartsLeft (most : ℕ) (m : Found) : Type 0 where
   cells : AllLeft most m.cell_lefts

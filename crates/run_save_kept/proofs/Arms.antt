@@ -4,42 +4,39 @@ use Rattle.std.proofs.Common.{sym, subst, ap, ◌∙◌, arith, option_map, ◌�
 use Rattle.std.specs.Prelude.{pred, ◌&&◌, ◌==◌, eqb, ◌≢◌}
 use mathlib.Core.Logic.{inl, inr}
 use Rattle.std.proofs.lemmas.Bool.Decides.{eqb_tells}
+use Rattle.std.proofs.lemmas.Bool.{cases_Bool}
+use Rattle.std.proofs.lemmas.Option.{same_Some}
+use Rattle.verse_base.proofs.Facts.{clash, none_of_next, place_of_next}
 use Rattle.task_tree.specs.Tasks.{is_child}
 use Rattle.verse_meaning_state.specs.Waits.{nth, eqn, ltn}
+use Rattle.verse_meaning_state.proofs.Numbers.{eqn_is, eqn_same, nth_map}
 use Rattle.verse_code_machine.specs.Tasks.{Frame, root, part, Part, did, runs, Rest, asleep, group, Task, same_path}
 use Rattle.verse_code_machine.specs.Ends.{is_run}
-use Rattle.verse_code_machine_parents.proofs.Lists.{no_both, eqn_is, eqn_same}
+use Rattle.verse_code_machine.proofs.Paths.{same_is, same_self}
+use Rattle.verse_code_machine_parents.proofs.Lists.{no_both}
 use Rattle.run_save_shots.specs.Lists.{Each, EachAt, EachTwo, count}
 use Rattle.run_save_shots.specs.Kept.{KeptFrame, KeptRest, KeptTask}
 use Rattle.run_save_shots.specs.Fitting as fit
 use Rattle.run_save_shots.specs.Fitting.{is_arm_of, unfinished, ArmsRun, MayFollow, InOrder}
 use Rattle.run_save_shots.specs.Keeping as kp
 use Rattle.run_save_shots.specs.Keeping.{place_of, task_of, arm_of, arm_in, depth_of, arm_or, role_in}
+use Rattle.run_save_shots.proofs.Lists.{all_as, each_both}
 use Rattle.run_save_fits.specs.Held.{IsSome, RoleIs, tasks_sum, one}
 use Rattle.run_save_fits.proofs.Holding.{role_some}
+use Rattle.run_save_fits.proofs.Counted.{ltn_less}
 use Rattle.run_save_kept.specs.Orders.{is_named, runs_in, arms_of, in_group, awaits, skips, weight}
-use Rattle.run_save_kept.proofs.Paths.{two_ways, clash, same_is, is_same, same_self, not_same, end_is, root_no_part, ltn_less}
-use Rattle.run_save_kept.proofs.Sums.{all_as}
+use Rattle.run_save_kept.proofs.Paths.{is_same, not_same, end_is, root_no_part}
 use Rattle.run_save_kept.proofs.Siblings.{Older, Named, part_path}
+use Rattle.run_save_kept.proofs.Sums.{sums_add}
 
 -- ---- lists
-
-some_is : {A : Type 0} {x y : A} → Some x ≡ Some y → x ≡ y
-some_is e = cc
 
 none_some : {A B : Type 0} {x : A} → None ≡ Some x → B
 none_some e = cc
 
-suc_of : (o : Option ℕ) (i : ℕ) → option_map suc o ≡ Some (suc i) → o ≡ Some i
-suc_of None i e = none_some e
-suc_of (Some j) i e = same j i (some_is e)
-  where
-    same : (j i : ℕ) → suc j ≡ suc i → Some j ≡ Some i
-    same j i e = cc
-
 suc_not : {A : Type 0} (o : Option ℕ) → option_map suc o ≡ Some 0 → A
 suc_not None e = none_some e
-suc_not (Some j) e = absurd (no j (some_is e))
+suc_not (Some j) e = absurd (no j (same_Some _ _ e))
   where
     no : (j : ℕ) → suc j ≡ 0 → ⊥
     no j e = omega (arith, e)
@@ -59,7 +56,7 @@ each_at P n (x ∷ xs) f = (
 
 of_map : {A B : Type 0} (f : A → B) (xs : List A) (i : ℕ) (y : B) → nth (map f xs) i ≡ Some y → (x : A) × (nth xs i ≡ Some x) × (y ≡ f x)
 of_map f [] i y e = none_some e
-of_map f (x ∷ xs) zero y e = (x, refl, sym (some_is e))
+of_map f (x ∷ xs) zero y e = (x, refl, sym (same_Some _ _ e))
 of_map f (x ∷ xs) (suc i) y e = of_map f xs i y e
 
 -- each of a list weighs no more than all
@@ -78,9 +75,9 @@ members (x ∷ xs) = (
     second : (i j k : ℕ) → i ≤ k → i ≤ j + k
     second i j k e = omega (arith, e)
 
-member_at : (P : Task → Type 0) (xs : List Task) (i : ℕ) (t : Task) → Each P xs → nth xs i ≡ Some t → P t
+pub member_at : (P : Task → Type 0) (xs : List Task) (i : ℕ) (t : Task) → Each P xs → nth xs i ≡ Some t → P t
 member_at P [] i t a e = none_some e
-member_at P (x ∷ xs) zero t a e = subst P (some_is e) a.0
+member_at P (x ∷ xs) zero t a e = subst P (same_Some _ _ e) a.0
 member_at P (x ∷ xs) (suc i) t a e = member_at P xs i t a.1 e
 
 two_as : (M : Task → Type 0) (R S : Task → Task → Type 0) → ((t u : Task) → M t → M u → R t u → S t u) → (xs : List Task) → Each M xs →
@@ -112,19 +109,19 @@ placed q (x ∷ xs) i e = by_test (same_path q x.thread.who.path) refl i e (λ j
         ((j : ℕ) → place_of q xs ≡ Some j → (y : Task) × (nth xs j ≡ Some y) × (q ≡ y.thread.who.path) × (task_of q xs ≡ Some y)) →
         (y : Task) × (nth (x ∷ xs) i ≡ Some y) × (q ≡ y.thread.who.path) × (cond b (Some x) (task_of q xs) ≡ Some y)
     by_test true f zero g h = (x, refl, same_is q x.thread.who.path f, refl)
-    by_test true f (suc i) g h = absurd (no i (some_is g))
+    by_test true f (suc i) g h = absurd (no i (same_Some _ _ g))
       where
         no : (i : ℕ) → 0 ≡ suc i → ⊥
         no i e = omega (arith, e)
     by_test false f zero g h = suc_not (place_of q xs) g
-    by_test false f (suc i) g h = h i (suc_of (place_of q xs) i g)
+    by_test false f (suc i) g h = h i (place_of_next (place_of q xs) i g)
 
 -- where no two tasks have one path each is found by its own
 pub found : (q : List ℕ) (ys : List Task) (i : ℕ) (y : Task) → nth ys i ≡ Some y → q ≡ y.thread.who.path → tasks_sum (is_named q) ys ≤ 1 →
     place_of q ys ≡ Some i
 found q [] i y e f h = none_some e
 found q (x ∷ xs) zero y e f h = ap (λ b. cond b (Some 0) (option_map suc (place_of q xs)))
-    (is_same q x.thread.who.path (subst (λ (t : Task). q ≡ t.thread.who.path) (sym (some_is e)) f))
+    (is_same q x.thread.who.path (subst (λ (t : Task). q ≡ t.thread.who.path) (sym (same_Some _ _ e)) f))
 found q (x ∷ xs) (suc i) y e f h = by_test (same_path q x.thread.who.path) refl (found q xs i y e f)
   where
     there : 1 ≤ tasks_sum (is_named q) xs
@@ -145,30 +142,31 @@ found q (x ∷ xs) (suc i) y e f h = by_test (same_path q x.thread.who.path) ref
 
 -- ---- the place of an arm
 
-arm_is : (n : ℕ) (gs : List Part) (i : ℕ) → arm_of n gs ≡ Some i → nth gs i ≡ Some (runs n)
+pub arm_is : (n : ℕ) (gs : List Part) (i : ℕ) → arm_of n gs ≡ Some i → nth gs i ≡ Some (runs n)
 arm_is n [] i e = none_some e
 arm_is n (did v ∷ gs) zero e = suc_not (arm_of n gs) e
-arm_is n (did v ∷ gs) (suc i) e = arm_is n gs i (suc_of (arm_of n gs) i e)
+arm_is n (did v ∷ gs) (suc i) e = arm_is n gs i (place_of_next (arm_of n gs) i e)
 arm_is n (runs j ∷ gs) i e = by_test (eqn n j) refl i e (λ i. arm_is n gs i)
   where
     by_test : (b : Bool) → eqn n j ≡ b → (i : ℕ) → cond b (Some 0) (option_map suc (arm_of n gs)) ≡ Some i →
         ((i : ℕ) → arm_of n gs ≡ Some i → nth gs i ≡ Some (runs n)) → nth (runs j ∷ gs) i ≡ Some (runs n)
     by_test true f zero g h = ap (λ k. Some (runs k)) (sym (eqn_is n j f))
-    by_test true f (suc i) g h = absurd (no i (some_is g))
+    by_test true f (suc i) g h = absurd (no i (same_Some _ _ g))
       where
         no : (i : ℕ) → 0 ≡ suc i → ⊥
         no i e = omega (arith, e)
     by_test false f zero g h = suc_not (arm_of n gs) g
-    by_test false f (suc i) g h = h i (suc_of (arm_of n gs) i g)
+    by_test false f (suc i) g h = h i (place_of_next (arm_of n gs) i g)
 
 runs_there : (n : ℕ) (gs : List Part) (i : ℕ) → nth gs i ≡ Some (runs n) → 1 ≤ runs_in n gs
 runs_there n [] i e = none_some e
-runs_there n (did v ∷ gs) zero e = absurd (no (some_is e))
+runs_there n (did v ∷ gs) zero e = absurd (no (same_Some _ _ e))
   where
     no : did v ≡ runs n → ⊥
     no e = cc
 runs_there n (did v ∷ gs) (suc i) e = runs_there n gs i e
-runs_there n (runs j ∷ gs) zero e = let f = ap one (subst (λ k. eqn n k ≡ true) (same (sym (some_is e))) (eqn_same n)) in omega (arith, f)
+runs_there n (runs j ∷ gs) zero e = let f = ap one (subst (λ k. eqn n k ≡ true) (same (sym (same_Some _ _ e))) (eqn_same n)) in
+    omega (arith, f)
   where
     same : {i j : ℕ} → runs i ≡ runs j → i ≡ j
     same e = cc
@@ -176,13 +174,13 @@ runs_there n (runs j ∷ gs) (suc i) e = let f = runs_there n gs i e in omega (a
 
 is_arm : (n : ℕ) (gs : List Part) (i : ℕ) → nth gs i ≡ Some (runs n) → runs_in n gs ≤ 1 → arm_of n gs ≡ Some i
 is_arm n [] i e h = none_some e
-is_arm n (did v ∷ gs) zero e h = absurd (no (some_is e))
+is_arm n (did v ∷ gs) zero e h = absurd (no (same_Some _ _ e))
   where
     no : did v ≡ runs n → ⊥
     no e = cc
 is_arm n (did v ∷ gs) (suc i) e h = ap (option_map suc) (is_arm n gs i e h)
 is_arm n (runs j ∷ gs) zero e h = ap (λ b. cond b (Some 0) (option_map suc (arm_of n gs)))
-    (subst (λ k. eqn n k ≡ true) (same (sym (some_is e))) (eqn_same n))
+    (subst (λ k. eqn n k ≡ true) (same (sym (same_Some _ _ e))) (eqn_same n))
   where
     same : {i j : ℕ} → runs i ≡ runs j → i ≡ j
     same e = cc
@@ -203,28 +201,24 @@ is_arm n (runs j ∷ gs) (suc i) e h = by_test (eqn n j) refl (is_arm n gs i e)
 arm_runs : (n : ℕ) (gs : List Part) (i : ℕ) → arm_of n gs ≡ Some i → is_run n gs ≡ true
 arm_runs n [] i e = none_some e
 arm_runs n (did v ∷ gs) zero e = suc_not (arm_of n gs) e
-arm_runs n (did v ∷ gs) (suc i) e = arm_runs n gs i (suc_of (arm_of n gs) i e)
+arm_runs n (did v ∷ gs) (suc i) e = arm_runs n gs i (place_of_next (arm_of n gs) i e)
 arm_runs n (runs j ∷ gs) i e = by_test (eqn n j) i e (λ i. arm_runs n gs i)
   where
     by_test : (b : Bool) (i : ℕ) → cond b (Some 0) (option_map suc (arm_of n gs)) ≡ Some i →
         ((i : ℕ) → arm_of n gs ≡ Some i → is_run n gs ≡ true) → cond b true (is_run n gs) ≡ true
     by_test true i g h = refl
     by_test false zero g h = suc_not (arm_of n gs) g
-    by_test false (suc i) g h = h i (suc_of (arm_of n gs) i g)
-
-no_suc : (o : Option ℕ) → option_map suc o ≡ None → o ≡ None
-no_suc None e = refl
-no_suc (Some i) e = none_some (sym e)
+    by_test false (suc i) g h = h i (place_of_next (arm_of n gs) i g)
 
 no_arm : (n : ℕ) (gs : List Part) → arm_of n gs ≡ None → is_run n gs ≡ false
 no_arm n [] e = refl
-no_arm n (did v ∷ gs) e = no_arm n gs (no_suc (arm_of n gs) e)
+no_arm n (did v ∷ gs) e = no_arm n gs (none_of_next (arm_of n gs) e)
 no_arm n (runs j ∷ gs) e = by_test (eqn n j) e (no_arm n gs)
   where
     by_test : (b : Bool) → cond b (Some 0) (option_map suc (arm_of n gs)) ≡ None → (arm_of n gs ≡ None → is_run n gs ≡ false) →
         cond b true (is_run n gs) ≡ false
     by_test true g h = none_some (sym g)
-    by_test false g h = h (no_suc (arm_of n gs) g)
+    by_test false g h = h (none_of_next (arm_of n gs) g)
 
 -- ---- tests
 
@@ -263,11 +257,6 @@ child_is : (i : ℕ) (o : Option ℕ) → is_child (Some i) o ≡ true → o ≡
 child_is i None e = no_both (sym e)
 child_is i (Some j) e = ap Some (sym (eqb_is i j e))
 
-nth_map : {A B : Type 0} (f : A → B) (xs : List A) (i : ℕ) → nth (map f xs) i ≡ option_map f (nth xs i)
-nth_map f [] i = refl
-nth_map f (x ∷ xs) zero = refl
-nth_map f (x ∷ xs) (suc i) = nth_map f xs i
-
 -- ---- depths
 
 count_less : (l k : ℕ) (fs : List Frame) → l ≤ k → count (λ (f : Frame). ltn k f.life.born) fs ≤ count (λ (f : Frame). ltn l f.life.born) fs
@@ -295,7 +284,7 @@ module _ (ys : List Task) (names : Each Named ys) (unique : (p : List ℕ) → t
   own_path y a = role_some y.thread.who.role y.thread.who a
 
   same_task : (i : ℕ) (y z : Task) → nth ys i ≡ Some y → nth ys i ≡ Some z → z ≡ y
-  same_task i y z e f = some_is (sym f ∙ e)
+  same_task i y z e f = same_Some _ _ (sym f ∙ e)
 
   module _ (i : ℕ) (y : Task) (at : nth ys i ≡ Some y) (place : ℕ) where
     is_the_arm : Task → Bool
@@ -349,7 +338,7 @@ module _ (ys : List Task) (names : Each Named ys) (unique : (p : List ℕ) → t
 
         each : (zs : List Task) → Each (λ z. one (is_arm_of i place (kp.task ys z)) ≡ 0) zs
         each [] = tt
-        each (z ∷ zs) = (by_test z (two_ways (is_child (Some i) (place_of z.thread.who.up ys))), each zs)
+        each (z ∷ zs) = (by_test z (cases_Bool (is_child (Some i) (place_of z.thread.who.up ys))), each zs)
 
     -- the arm that runs there is the task of its number
     one_child : (gs : List Part) (n : ℕ) → ((m : ℕ) → arm_in m y.rest ≡ arm_of m gs) → nth gs place ≡ Some (runs n) → runs_in n gs ≤ 1 →
@@ -363,7 +352,7 @@ module _ (ys : List Task) (names : Each Named ys) (unique : (p : List ℕ) → t
             ap one (ap (λ o. matches o place) (same_arm z.thread.who.number ∙ (ap (λ m. arm_of m gs) (sym g) ∙ is_arm n gs place e few)) ∙
             eqb_same place) ∙ sym (ap one (is_same (y.thread.who.path ++ n ∷ []) z.thread.who.path
             (ap (λ m. y.thread.who.path ++ m ∷ []) g ∙ sym p)))
-        by_number z p (inr f) = ap one (off (two_ways (matches (arm_in z.thread.who.number y.rest) place))) ∙
+        by_number z p (inr f) = ap one (off (cases_Bool (matches (arm_in z.thread.who.number y.rest) place))) ∙
             sym (ap one (not_same (y.thread.who.path ++ n ∷ []) z.thread.who.path
             (λ h. clash (eqn n z.thread.who.number) (differ (end_is y.thread.who.path y.thread.who.path n z.thread.who.number (h ∙ p)).1)
             f)))
@@ -394,14 +383,14 @@ module _ (ys : List Task) (names : Each Named ys) (unique : (p : List ℕ) → t
             one (is_arm_of i place (kp.task ys z)) ≡ is_named (y.thread.who.path ++ n ∷ []) z
         by_test z a (inl f) = let h = its_child z (child_is i (place_of z.thread.who.up ys) f) in
             ap one h.1 ∙ by_number z (part_path z.thread.who.role z.thread.who a (subst IsSome (sym h.0) (own_path y own)) ∙ ap (λ up. up ++
-            z.thread.who.number ∷ []) h.0) (two_ways (eqn n z.thread.who.number))
+            z.thread.who.number ∷ []) h.0) (cases_Bool (eqn n z.thread.who.number))
         by_test z a (inr f) = ap one (other_child z f) ∙
             sym (none_named z a (λ h. clash (is_child (Some i) (place_of z.thread.who.up ys)) (ap (is_child (Some i)) h ∙ eqb_same i) f))
 
         each : (zs : List Task) → Each Named zs → Each
             (λ z. one (is_arm_of i place (kp.task ys z)) ≡ is_named (y.thread.who.path ++ n ∷ []) z) zs
         each [] a = tt
-        each (z ∷ zs) a = (by_test z a.0 (two_ways (is_child (Some i) (place_of z.thread.who.up ys))), each zs a.1)
+        each (z ∷ zs) a = (by_test z a.0 (cases_Bool (is_child (Some i) (place_of z.thread.who.up ys))), each zs a.1)
 
   module _ (there : (a : List ℕ) → IsSome a → (n : ℕ) → tasks_sum (awaits a n) ys ≤ tasks_sum (is_named (a ++ n ∷ [])) ys) where
     arms_run : (i : ℕ) (y : Task) → nth ys i ≡ Some y → (place : ℕ) → (q : Rest) → y.rest ≡ q →
@@ -422,7 +411,7 @@ module _ (ys : List Task) (names : Each Named ys) (unique : (p : List ℕ) → t
             ap (λ b. cond b (runs_in n gs) 0) (same_self y.thread.who.path)) h
 
         no_arm_there : (n : ℕ) → (nth gs place ≡ Some (runs n) → ⊥) → matches (arm_in n y.rest) place ≡ false
-        no_arm_there n away = by_test (two_ways (matches (arm_in n y.rest) place))
+        no_arm_there n away = by_test (cases_Bool (matches (arm_in n y.rest) place))
           where
             by_test : (matches (arm_in n y.rest) place ≡ true) ⊎ (matches (arm_in n y.rest) place ≡ false) →
                 matches (arm_in n y.rest) place ≡ false
@@ -465,14 +454,6 @@ module _ (ys : List Task) (names : Each Named ys) (unique : (p : List ℕ) → t
       tasks_sum (weight (λ path. one (same_path (a ++ n ∷ []) path)) (skips a n k)) ys ≤ 1) where
     abbrev Member : Task → Type 0
     Member t = Named t × ((f : Task → ℕ) → f t ≤ tasks_sum f ys)
-
-    both_each : {A : Type 0} (P Q : A → Type 0) (xs : List A) → Each P xs → Each Q xs → Each (λ x. P x × Q x) xs
-    both_each P Q [] a b = tt
-    both_each P Q (x ∷ xs) a b = ((a.0, b.0), both_each P Q xs a.1 b.1)
-
-    sums_add : (f g : Task → ℕ) (xs : List Task) → tasks_sum (λ t. f t + g t) xs ≡ tasks_sum f xs + tasks_sum g xs
-    sums_add f g [] = refl
-    sums_add f g (x ∷ xs) = let h = sums_add f g xs in omega (arith, h)
 
     -- an arm has no younger sibling in the background
     no_younger : (y u : Task) (gs : List Part) (n m : ℕ) → Member y → Member u →
@@ -520,7 +501,7 @@ module _ (ys : List Task) (names : Each Named ys) (unique : (p : List ℕ) → t
     in_order t u a b h p e f = let x = placed t.thread.who.up ys p e in let z = placed u.thread.who.up ys p f in
         let same = same_task p x.0 z.0 x.1 z.1 in
         let path = z.2 ∙ ap (λ (t : Task). t.thread.who.path) same in
-        let own = member_at Member ys p x.0 (both_each Named (λ t. (f : Task → ℕ) → f t ≤ tasks_sum f ys) ys names (members ys)) x.1 in
+        let own = member_at Member ys p x.0 (each_both Named (λ t. (f : Task → ℕ) → f t ≤ tasks_sum f ys) ys names (members ys)) x.1 in
         let some = own_path x.0 own.0 in
         subst (λ o. MayFollow (role_in o t.thread.who.number) (role_in (task_of u.thread.who.up ys) u.thread.who.number)) (sym x.3)
         (subst (λ o. MayFollow (role_in (Some x.0) t.thread.who.number) (role_in o u.thread.who.number)) (sym (z.3 ∙ ap Some same))
@@ -531,4 +512,4 @@ module _ (ys : List Task) (names : Each Named ys) (unique : (p : List ℕ) → t
     pub order_fits : EachTwo Older ys → EachTwo InOrder (map (kp.task ys) ys)
     order_fits a = two_map InOrder (kp.task ys) ys
         (two_as Member Older (λ t u. InOrder (kp.task ys t) (kp.task ys u)) in_order ys
-        (both_each Named (λ t. (f : Task → ℕ) → f t ≤ tasks_sum f ys) ys names (members ys)) a)
+        (each_both Named (λ t. (f : Task → ℕ) → f t ≤ tasks_sum f ys) ys names (members ys)) a)

@@ -5,7 +5,7 @@ use Rattle.std.proofs.Common.{arith, ◌⊎◌}
 use mathlib.Core.Logic.{inl, inr}
 use Rattle.verse_code_machine.specs.Tasks.{Role, root, part, Who, Task, same_path}
 use Rattle.verse_code_machine.specs.Runs.{Forest}
-use Rattle.verse_code_machine_parents.specs.Parents.{whos, HasParent, here, later, Rooted, rooted_root, rooted_part, TreesRooted}
+use Rattle.verse_code_machine_parents.specs.Parents.{whos, HasParent, here, later, Rooted, rooted_root, rooted_part}
 use Rattle.verse_code_machine_parents.proofs.Lists.{rooted_tail}
 use Rattle.run_save_shots.specs.Lists.{Each}
 use Rattle.run_save_shots.specs.Keeping.{behind_parent, walked, walk}
@@ -13,12 +13,18 @@ use Rattle.run_save_shots.specs.Spelling.{before_parent, planted, grown}
 use Rattle.run_save_fits.specs.Held.{IsSome, RoleIs, WhoIs, tasks_sum, trees_sum, one}
 use Rattle.run_save_kept.specs.Orders.{Before, StandsBefore, Lined, last, is_named}
 use Rattle.run_save_kept.specs.Growing.{filled, TreesGrowAgain}
-use Rattle.run_save_kept.proofs.Paths.{two_ways, clash, same_is, is_same, not_same, one_longer, one_most}
-use Rattle.run_save_kept.proofs.Sums.{all_as, one_tree}
-use Rattle.run_save_kept.proofs.Siblings.{Named, HasOwn, walked_each, walked_sum, walked_parents}
+use Rattle.run_save_kept.proofs.Paths.{is_same, not_same}
+use Rattle.run_save_kept.proofs.Sums.{one_tree}
+use Rattle.run_save_kept.proofs.Siblings.{Named, HasOwn, walked_parents}
 use Rattle.run_save_fits.proofs.Holding.{end_some}
 use Rattle.verse_meaning_state.specs.Waits.{ltn}
 use Rattle.std.specs.Prelude.{Option}
+use Rattle.std.proofs.lemmas.Bool.{cases_Bool}
+use Rattle.verse_base.proofs.Facts.{clash, length_more}
+use Rattle.verse_code_machine.proofs.Paths.{same_is}
+use Rattle.run_save_shots.proofs.Lists.{all_as}
+use Rattle.run_save_fits.proofs.KeptAll.{walked_each, walked_sum, each_rooted}
+use Rattle.run_save_fits.proofs.Counted.{one_most}
 
 -- ---- paths
 
@@ -149,11 +155,11 @@ down_beneath a q (x ∷ xs) n d = by_end d.1 (down_beneath a x.thread.who.path x
 down_stays : (a q : List ℕ) (y : Task) (xs : List Task) → Each Ends xs → (a ≡ y.thread.who.up) ⊎ Beneath a y.thread.who.up → Beneath q a →
     Down y.thread.who.up q xs → Down a q (behind_parent y xs)
 down_stays a q y [] n h b d = absurd d
-down_stays a q y (x ∷ xs) n h b d = by_test (two_ways (same_path y.thread.who.up x.thread.who.path))
-    (two_ways (same_path a x.thread.who.path)) (λ g e. down_stays a x.thread.who.path y xs n.1 h g e)
+down_stays a q y (x ∷ xs) n h b d = by_test (cases_Bool (same_path y.thread.who.up x.thread.who.path))
+    (cases_Bool (same_path a x.thread.who.path)) (λ g e. down_stays a x.thread.who.path y xs n.1 h g e)
   where
     last_longer : length x.thread.who.path ≡ suc (length q)
-    last_longer = ap length (n.0 ∙ ap (λ up. up ++ x.thread.who.number ∷ []) d.0) ∙ one_longer q x.thread.who.number
+    last_longer = ap length (n.0 ∙ ap (λ up. up ++ x.thread.who.number ∷ []) d.0) ∙ length_more q x.thread.who.number
 
     equal : (i j k : ℕ) → j ≡ suc i → i < k → k < j → ⊥
     equal i j k e f g = omega (arith, e, f, g)
@@ -205,7 +211,7 @@ down_stays a q y (x ∷ xs) n h b d = by_test (two_ways (same_path y.thread.who.
 -- where a child stands behind its parent the way goes on to it
 down_child : (q : List ℕ) (z : Task) (xs : List Task) → Down z.thread.who.up q xs → Down z.thread.who.path q (behind_parent z xs)
 down_child q z [] d = absurd d
-down_child q z (x ∷ xs) d = by_test (two_ways (same_path z.thread.who.up x.thread.who.path)) (down_child x.thread.who.path z xs)
+down_child q z (x ∷ xs) d = by_test (cases_Bool (same_path z.thread.who.up x.thread.who.path)) (down_child x.thread.who.path z xs)
   where
     further : (x.thread.who.path ≡ z.thread.who.up) ⊎ Down z.thread.who.up x.thread.who.path xs →
         same_path z.thread.who.up x.thread.who.path ≡ false → Down z.thread.who.up x.thread.who.path xs
@@ -321,7 +327,7 @@ fill_front y cur (z ∷ zs) a = ap (λ t. fill (cond t (z ∷ y ∷ cur) (y ∷ 
 fill_down : (a : List ℕ) (x : Task) (cur : List Task) (y : Task) (zs : List Task) → y.thread.who.up ≡ a → Each (NoParent y) zs →
     Down a x.thread.who.path zs → fill (x ∷ cur) (behind_parent y zs) ≡ y ∷ fill (x ∷ cur) zs
 fill_down a x cur y [] e n d = absurd d
-fill_down a x cur y (z ∷ zs) e n d = by_test (two_ways (same_path y.thread.who.up z.thread.who.path))
+fill_down a x cur y (z ∷ zs) e n d = by_test (cases_Bool (same_path y.thread.who.up z.thread.who.path))
     (λ g. fill_down a z (x ∷ cur) y zs e n.1 g)
   where
     planted_first : before_parent z (x ∷ cur) ≡ z ∷ x ∷ cur
@@ -345,7 +351,7 @@ fill_down a x cur y (z ∷ zs) e n d = by_test (two_ways (same_path y.thread.who
 
 one_before : (y : Task) (xs : List Task) → Each (NoParent y) xs → Down y.thread.who.up [] xs → rebuilt (behind_parent y xs) ≡ y ∷ rebuilt xs
 one_before y [] n d = absurd d
-one_before y (x ∷ xs) n d = by_test (two_ways (same_path y.thread.who.up x.thread.who.path))
+one_before y (x ∷ xs) n d = by_test (cases_Bool (same_path y.thread.who.up x.thread.who.path))
   where
     further : (x.thread.who.path ≡ y.thread.who.up) ⊎ Down y.thread.who.up x.thread.who.path xs →
         same_path y.thread.who.up x.thread.who.path ≡ false → Down y.thread.who.up x.thread.who.path xs
@@ -496,10 +502,6 @@ trees_grow left acc ((t ∷ ts) ∷ tss) r l n =
         (trees_sum (is_named y.thread.who.up) tss) (n y.thread.who.up)
         (subst (λ i. 1 ≤ i) (walked_sum (is_named y.thread.who.up) (t ∷ ts)) (b.1 (subst (λ q. RoleIs q y.thread.who) e b.0).1)))
         (walked (t ∷ ts)) (walked_parents left (t ∷ ts) r.0 l.0)
-
-each_rooted : (left : ℕ) (tss : Forest) → TreesRooted left tss → Each (λ ts. Rooted left (whos ts)) tss
-each_rooted left [] r = tt
-each_rooted left (ts ∷ tss) r = (r.0, each_rooted left tss r.2)
 
 pub trees_again : TreesGrowAgain
 trees_again left tss r a = trees_grow left [] tss (each_rooted left tss r) a.lines (λ p. few p)

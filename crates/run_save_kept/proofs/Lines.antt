@@ -2,8 +2,6 @@
 use Rattle.std.proofs.Common.{◌≡◌, ℕ, suc, ◌≤◌, List, [], ◌∷◌, ◌++◌, Option, Some, None, Bool, true, false, cond, refl, sym, subst, ap}
 use Rattle.std.proofs.Common.{arith, ◌∙◌}
 use Rattle.verse_code.specs.declared.codes.Code.{Code}
-use Rattle.verse_value.specs.Val.{Val}
-use Rattle.verse_meaning_state.specs.State.{State, with_result}
 use Rattle.verse_code_machine.specs.Tasks.{Who, Task, After, resuming, closing, finishing, Up, begins, branching, spawning, clearing}
 use Rattle.verse_code_machine.specs.Tasks.{Trees, child_named, onto}
 use Rattle.verse_code_machine.specs.Tasks.{since, beneath_arms}
@@ -12,13 +10,13 @@ use Rattle.verse_code_machine.specs.Runs.{Forest}
 use Rattle.verse_code_machine_parents.specs.Parents.{whos, line, UpsRooted}
 use Rattle.verse_code_machine_parents.proofs.Lists.{onto_line}
 use Rattle.run_save_shots.specs.Lists.{Each}
+use Rattle.run_save_shots.proofs.Lists.{each_join, each_front, each_back, all_as}
 use Rattle.run_save_moves.specs.Moves as m
 use Rattle.run_save_moves.specs.Moves.{Point, Move}
 use Rattle.run_save_fits.specs.Held.{IsSome, WhoIs}
 use Rattle.run_save_fits.proofs.Holding.{child_who, role_some}
 use Rattle.run_save_kept.specs.Orders.{NoneBelow, first, StandsBefore, Sits, Lined}
 use Rattle.run_save_kept.proofs.Paths.{below_less, below_end, child_before, before_child, child_behind}
-use Rattle.run_save_kept.proofs.Sums.{each_join, front_each, back_each, all_as}
 
 -- ---- lines
 
@@ -237,10 +235,6 @@ Lines (m.climbs up n v pre post trees s) = Rows s.clock.left (line pre (whos pos
 Lines (m.wakes n v tss s) = TreesLined s.clock.left tss
 Lines (m.turns s tss) = TreesLined s.clock.left tss
 
-left_same : (entry : Option ℕ) (v : Val) (s : State) → (with_result entry v s).clock.left ≡ s.clock.left
-left_same None v s = refl
-left_same (Some e) v s = refl
-
 one_lower : (l k : ℕ) → suc l ≡ k → l ≤ k
 one_lower l k e = omega (arith, e)
 
@@ -316,6 +310,6 @@ lines (m.joins_no_group {y = y} {pre = pre} {post = post} {trees = trees} {s = s
 lines (m.joins e r i) a = a
 lines (m.woken {before = before} {behind = rest} {pre = pre} {post = post} {y = y} {s = s} e r i) a =
     let b = subst (TreesLined s.clock.left) e a in let d =
-    back_each (λ ts. Lined s.clock.left (whos ts)) before (onto pre (y ∷ post) ∷ rest) b in
+    each_back (λ ts. Lined s.clock.left (whos ts)) before (onto pre (y ∷ post) ∷ rest) b in
     rows (subst (Lined s.clock.left) (onto_line pre (y ∷ post)) d.0) tt
-    (front_each (λ ts. Lined s.clock.left (whos ts)) before (onto pre (y ∷ post) ∷ rest) b) d.1
+    (each_front (λ ts. Lined s.clock.left (whos ts)) before (onto pre (y ∷ post) ∷ rest) b) d.1

@@ -1,15 +1,17 @@
 -- No two tasks of a run have one path, and none has one that is to come.
 use Rattle.std.proofs.Common.{◌≡◌, ℕ, suc, ◌+◌, ◌≤◌, List, [], ◌∷◌, ◌++◌, true, false, refl, sym, subst, ap, ◌∙◌, arith, ◌⊎◌}
 use mathlib.Core.Logic.{inl, inr}
+use Rattle.std.proofs.lemmas.Bool.{cases_Bool}
 use Rattle.verse_code.specs.declared.codes.Code.{Code}
 use Rattle.verse_meaning_state.specs.Waits.{eqn, ltn}
+use Rattle.verse_meaning_state.proofs.Numbers.{eqn_same}
 use Rattle.verse_code_machine.specs.Tasks.{Part, same_path}
-use Rattle.verse_code_machine_parents.proofs.Lists.{eqn_same}
+use Rattle.verse_code_machine.proofs.Paths.{same_is}
 use Rattle.run_save_moves.specs.Moves.{Point, Move}
 use Rattle.run_save_fits.specs.Held.{one}
-use Rattle.run_save_fits.proofs.Counted.{drawn_once}
+use Rattle.run_save_fits.proofs.Counted.{drawn_once, ltn_less}
 use Rattle.run_save_kept.specs.Orders.{last}
-use Rattle.run_save_kept.proofs.Paths.{two_ways, same_is, last_end, ltn_less}
+use Rattle.run_save_kept.proofs.Paths.{last_end}
 use Rattle.run_save_kept.proofs.Rails.{Railed}
 use Rattle.run_save_kept.proofs.Weights.{left_at, Special, spawned, branched, arm_begun, arm_ended, joined, weigh, Grown, lessens, special}
 use Rattle.run_save_kept.proofs.Weights.{grows}
@@ -28,7 +30,7 @@ module _ (p : List ℕ) where
   Named x = weigh has_path no_arms x ≤ room (left_at x)
 
   ends_as : (a : List ℕ) (l : ℕ) → one (same_path p (a ++ l ∷ [])) ≤ one (eqn l (last p))
-  ends_as a l = by_test (two_ways (same_path p (a ++ l ∷ [])))
+  ends_as a l = by_test (cases_Bool (same_path p (a ++ l ∷ [])))
     where
       equal : (i j k : ℕ) → i ≤ 1 → j ≡ 1 → i ≤ j
       equal i j k e f = omega (arith, e, f)

@@ -1,45 +1,23 @@
 -- Paths of tasks, and the arms of groups.
-use Rattle.std.proofs.Common.{◌≡◌, ℕ, zero, suc, ◌+◌, ◌≤◌, ◌<◌, length, List, [], ◌∷◌, ◌++◌, Bool, true, false, cond, refl, sym, subst, ap}
+use Rattle.std.proofs.Common.{◌≡◌, ℕ, suc, ◌+◌, ◌≤◌, ◌<◌, length, List, [], ◌∷◌, ◌++◌, Bool, true, false, cond, refl, sym, subst, ap}
 use Rattle.std.proofs.Common.{◌∙◌}
 use Rattle.std.proofs.Common.{arith, ◌⊎◌}
 use mathlib.Core.Logic.{inl, inr}
-use Rattle.std.proofs.lemmas.List.{length-append}
+use Rattle.std.proofs.lemmas.Bool.{cases_Bool}
+use Rattle.verse_base.proofs.Facts.{clash}
 use Rattle.verse_value.specs.Val.{Val}
-use Rattle.verse_meaning_state.specs.Waits.{eqn, ltn}
+use Rattle.verse_meaning_state.specs.Waits.{eqn}
+use Rattle.verse_meaning_state.proofs.Numbers.{eqn_is, eqn_same, eqn_not}
 use Rattle.verse_code_machine.specs.Tasks.{Part, did, runs, same_path, starts, since, beneath_arms}
 use Rattle.verse_code_machine.specs.Ends.{is_run, with_did}
-use Rattle.verse_code_machine_parents.proofs.Lists.{no_both, cond_with, eqn_is, eqn_same}
+use Rattle.verse_code_machine.proofs.Paths.{same_is, same_self}
+use Rattle.verse_code_machine_parents.proofs.Lists.{no_both}
+use Rattle.run_save_shots.proofs.Lists.{none_end}
 use Rattle.run_save_fits.specs.Held.{IsSome, one}
+use Rattle.run_save_fits.proofs.Lasting.{none_starts, none_since}
 use Rattle.run_save_kept.specs.Orders.{Before, NoneBelow, last, runs_in}
 
-pub two_ways : (b : Bool) → (b ≡ true) ⊎ (b ≡ false)
-two_ways true = inl refl
-two_ways false = inr refl
-
-pub clash : {A : Type 0} (b : Bool) → b ≡ true → b ≡ false → A
-clash true e f = cc
-clash false e f = cc
-
-pub one_most : (b : Bool) → one b ≤ 1
-one_most true = omega arith
-one_most false = omega arith
-
 -- ---- paths
-
-pub same_is : (p q : List ℕ) → same_path p q ≡ true → p ≡ q
-same_is [] [] e = refl
-same_is [] (j ∷ q) e = no_both (sym e)
-same_is (i ∷ p) [] e = no_both (sym e)
-same_is (i ∷ p) (j ∷ q) e =
-    cond_with (eqn i j) (same_path p q) false (λ b. b ≡ true → i ∷ p ≡ j ∷ q) (λ f g. both (eqn_is i j f) (same_is p q g))
-    (λ f g. no_both (sym g)) e
-  where
-    both : {i j : ℕ} {p q : List ℕ} → i ≡ j → p ≡ q → i ∷ p ≡ j ∷ q
-    both e f = cc
-
-pub same_self : (p : List ℕ) → same_path p p ≡ true
-same_self [] = refl
-same_self (i ∷ p) = subst (λ b. cond b (same_path p p) false ≡ true) (sym (eqn_same i)) (same_self p)
 
 pub is_same : (p q : List ℕ) → p ≡ q → same_path p q ≡ true
 is_same p q e = subst (λ q. same_path p q ≡ true) e (same_self p)
@@ -57,14 +35,10 @@ tail_is e = cc
 head_is : {i j : ℕ} {p q : List ℕ} → i ∷ p ≡ j ∷ q → i ≡ j
 head_is e = cc
 
-none_is : {A : Type 0} (a : List ℕ) (n : ℕ) → [] ≡ a ++ n ∷ [] → A
-none_is [] n e = cc
-none_is (i ∷ a) n e = cc
-
 pub end_is : (a b : List ℕ) (n k : ℕ) → a ++ n ∷ [] ≡ b ++ k ∷ [] → (a ≡ b) × (n ≡ k)
 end_is [] [] n k e = (refl, head_is e)
-end_is [] (j ∷ b) n k e = none_is b k (tail_is e)
-end_is (i ∷ a) [] n k e = none_is a n (sym (tail_is e))
+end_is [] (j ∷ b) n k e = none_end b k (tail_is e)
+end_is (i ∷ a) [] n k e = none_end a n (sym (tail_is e))
 end_is (i ∷ a) (j ∷ b) n k e = let h = end_is a b n k (tail_is e) in (both (head_is e) h.0, h.1)
   where
     both : {i j : ℕ} {p q : List ℕ} → i ≡ j → p ≡ q → i ∷ p ≡ j ∷ q
@@ -75,16 +49,10 @@ last_end [] n = refl
 last_end (i ∷ []) n = refl
 last_end (i ∷ j ∷ a) n = last_end (j ∷ a) n
 
-pub one_longer : (a : List ℕ) (n : ℕ) → length (a ++ n ∷ []) ≡ suc (length a)
-one_longer a n = length-append a (n ∷ []) ∙ sums (length a)
-  where
-    sums : (n : ℕ) → n + 1 ≡ suc n
-    sums n = omega arith
-
 -- a path of one number is no part's
 pub root_no_part : {A : Type 0} (a : List ℕ) (n k : ℕ) → IsSome a → a ++ n ∷ [] ≡ k ∷ [] → A
 root_no_part [] n k s e = absurd s
-root_no_part (i ∷ a) n k s e = none_is a n (sym (tail_is e))
+root_no_part (i ∷ a) n k s e = none_end a n (sym (tail_is e))
 
 pub shorter_not : (a b : List ℕ) → length b < length a → same_path a b ≡ false
 shorter_not a b h = not_same a b (λ e. no (length a) (length b) h (ap length e))
@@ -94,47 +62,11 @@ shorter_not a b h = not_same a b (λ e. no (length a) (length b) h (ap length e)
 
 -- ---- numbers
 
-pub ltn_less : (l k n : ℕ) → l ≤ k → one (ltn k n) ≤ one (ltn l n)
-ltn_less l k zero h = omega arith
-ltn_less zero k (suc n) h = one_most (ltn k (suc n))
-ltn_less (suc l) zero (suc n) h = omega (arith, h)
-ltn_less (suc l) (suc k) (suc n) h = ltn_less l k n (omega (arith, h))
-
-pub ltn_not : (k n : ℕ) → n ≤ k → ltn k n ≡ false
-ltn_not k zero h = refl
-ltn_not zero (suc n) h = absurd (omega (arith, h))
-ltn_not (suc k) (suc n) h = ltn_not k n (omega (arith, h))
-
-pub ltn_is : (k n : ℕ) → ltn k n ≡ true → k < n
-ltn_is k zero e = no_both (sym e)
-ltn_is zero (suc n) e = omega arith
-ltn_is (suc k) (suc n) e = let h = ltn_is k n e in omega (arith, h)
-
-pub ltn_no : (k n : ℕ) → ltn k n ≡ false → n ≤ k
-ltn_no k zero e = omega arith
-ltn_no zero (suc n) e = no_both e
-ltn_no (suc k) (suc n) e = let h = ltn_no k n e in omega (arith, h)
-
-pub eqn_not : (a b : ℕ) → (a ≡ b → ⊥) → eqn a b ≡ false
-eqn_not a b other = by_answer (eqn a b) refl
-  where
-    by_answer : (t : Bool) → eqn a b ≡ t → t ≡ false
-    by_answer true e = absurd (other (eqn_is a b e))
-    by_answer false e = refl
-
 -- ---- which tasks go
 
 -- what goes with a task above it, or is a child of the one that stays
 pub record Rises (a : List ℕ) (f : List ℕ → Bool) : Type 0 where
   pub up : (x : List ℕ) (n : ℕ) → f (x ++ n ∷ []) ≡ true → (f x ≡ true) ⊎ (x ≡ a)
-
-none_since : (a : List ℕ) (b : ℕ) → since a b [] ≡ false
-none_since [] b = refl
-none_since (x ∷ a) b = refl
-
-none_starts : (a : List ℕ) (n : ℕ) → starts (a ++ n ∷ []) [] ≡ false
-none_starts [] n = refl
-none_starts (x ∷ a) n = refl
 
 cond_false : {A : Type 0} (b c : Bool) → c ≡ false → cond b c false ≡ true → A
 cond_false true c e f = clash c f e
@@ -144,7 +76,7 @@ since_up : (a : List ℕ) (b : ℕ) (x : List ℕ) (n : ℕ) → since a b (x ++
 since_up [] b [] n e = inr refl
 since_up [] b (k ∷ x) n e = inl e
 since_up (i ∷ a) b [] n e = cond_false (eqn i n) (since a b []) (none_since a b) e
-since_up (i ∷ a) b (j ∷ x) n e = by_test (two_ways (eqn i j)) (since_up a b x n)
+since_up (i ∷ a) b (j ∷ x) n e = by_test (cases_Bool (eqn i j)) (since_up a b x n)
   where
     further : eqn i j ≡ true → (since a b x ≡ true) ⊎ (x ≡ a) → (cond (eqn i j) (since a b x) false ≡ true) ⊎ (j ∷ x ≡ i ∷ a)
     further f (inl g) = inl (subst (λ t. cond t (since a b x) false ≡ true) (sym f) g)
@@ -165,7 +97,7 @@ start_up : (a : List ℕ) (k : ℕ) (x : List ℕ) (n : ℕ) → starts (a ++ k 
 start_up [] k [] n e = inr refl
 start_up [] k (j ∷ x) n e = inl e
 start_up (i ∷ a) k [] n e = cond_false (eqn i n) (starts (a ++ k ∷ []) []) (none_starts a k) e
-start_up (i ∷ a) k (j ∷ x) n e = by_test (two_ways (eqn i j)) (start_up a k x n)
+start_up (i ∷ a) k (j ∷ x) n e = by_test (cases_Bool (eqn i j)) (start_up a k x n)
   where
     further : eqn i j ≡ true → (starts (a ++ k ∷ []) x ≡ true) ⊎ (x ≡ a) →
         (cond (eqn i j) (starts (a ++ k ∷ []) x) false ≡ true) ⊎ (j ∷ x ≡ i ∷ a)
@@ -185,7 +117,7 @@ arms_up : (a : List ℕ) (gs : List Part) (x : List ℕ) (n : ℕ) → beneath_a
     (x ≡ a)
 arms_up a [] x n e = no_both (sym e)
 arms_up a (did v ∷ gs) x n e = arms_up a gs x n e
-arms_up a (runs k ∷ gs) x n e = by_test (two_ways (starts (a ++ k ∷ []) (x ++ n ∷ []))) (arms_up a gs x n)
+arms_up a (runs k ∷ gs) x n e = by_test (cases_Bool (starts (a ++ k ∷ []) (x ++ n ∷ []))) (arms_up a gs x n)
   where
     later : (b : Bool) → (beneath_arms a gs x ≡ true) ⊎ (x ≡ a) → (cond b true (beneath_arms a gs x) ≡ true) ⊎ (x ≡ a)
     later true g = inl refl
@@ -332,7 +264,7 @@ with_other n k v (runs j ∷ gs) other = by_test (eqn k j) refl (with_other n k 
 pub with_run : (n k : ℕ) (v : Val) (gs : List Part) → is_run n (with_did k v gs) ≡ true → is_run n gs ≡ true
 with_run n k v [] e = e
 with_run n k v (did w ∷ gs) e = with_run n k v gs e
-with_run n k v (runs j ∷ gs) e = by_test (eqn k j) (two_ways (eqn n j)) (with_run n k v gs) e
+with_run n k v (runs j ∷ gs) e = by_test (eqn k j) (cases_Bool (eqn n j)) (with_run n k v gs) e
   where
     by_test : (b : Bool) → (eqn n j ≡ true) ⊎ (eqn n j ≡ false) → (is_run n (with_did k v gs) ≡ true → is_run n gs ≡ true) →
         is_run n (cond b (did v ∷ gs) (runs j ∷ with_did k v gs)) ≡ true → cond (eqn n j) true (is_run n gs) ≡ true

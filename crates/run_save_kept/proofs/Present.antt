@@ -3,6 +3,8 @@ use Rattle.std.proofs.Common.{◌≡◌, ℕ, suc, ◌+◌, ◌≤◌, ◌<◌, 
 use Rattle.std.proofs.Common.{ap}
 use Rattle.std.proofs.Common.{◌∙◌, arith, ◌⊎◌}
 use mathlib.Core.Logic.{inl, inr}
+use Rattle.std.proofs.lemmas.Bool.{cases_Bool}
+use Rattle.verse_base.proofs.Facts.{clash}
 use Rattle.verse_code.specs.declared.codes.Code.{Code}
 use Rattle.verse_value.specs.Val.{Val}
 use Rattle.verse_code_machine.specs.Tasks.{root, part, Who, Part, did, runs, Rest, asleep, group, Task, Up}
@@ -10,17 +12,21 @@ use Rattle.verse_code_machine.specs.Tasks.{begins, branching, spawning, clearing
 use Rattle.verse_code_machine.specs.Cancelling.{without}
 use Rattle.verse_code_machine.specs.Ends.{is_run, with_did}
 use Rattle.verse_code_machine.specs.Runs.{Forest}
-use Rattle.verse_code_machine_parents.proofs.Lists.{longer, child_longer, eqn_is, Takes, since_takes, arms_takes}
+use Rattle.verse_code_machine_parents.proofs.Lists.{longer, child_longer, Takes, since_takes, arms_takes}
 use Rattle.verse_meaning_state.specs.Waits.{eqn, ltn}
+use Rattle.verse_meaning_state.proofs.Numbers.{eqn_is}
+use Rattle.verse_code_machine.proofs.Paths.{same_is}
 use Rattle.run_save_shots.specs.Lists.{Each}
+use Rattle.run_save_shots.proofs.Lists.{each_join, each_front, each_back}
 use Rattle.run_save_moves.specs.Moves as m
 use Rattle.run_save_moves.specs.Moves.{Point, Move, IsArmOf}
 use Rattle.run_save_fits.specs.Held.{IsSome, RoleIs, WhoIs, tasks_sum, one}
+use Rattle.run_save_fits.proofs.Counted.{one_most}
 use Rattle.run_save_kept.specs.Orders.{last, is_named, runs_in, arms_of, in_group, awaits, weight}
-use Rattle.run_save_kept.proofs.Paths.{two_ways, clash, one_most, same_is, is_same, not_same, end_is, root_no_part, shorter_not, Rises}
+use Rattle.run_save_kept.proofs.Paths.{is_same, not_same, end_is, root_no_part, shorter_not, Rises}
 use Rattle.run_save_kept.proofs.Paths.{since_rises, arms_rise}
 use Rattle.run_save_kept.proofs.Paths.{runs_end, runs_did, no_run, with_fewer, with_most}
-use Rattle.run_save_kept.proofs.Sums.{onto_sum, fewer, stays_sum, none_stays, none_sum, each_join, front_each, back_each}
+use Rattle.run_save_kept.proofs.Sums.{onto_sum, fewer, stays_sum, none_stays, none_sum}
 use Rattle.run_save_kept.proofs.Rails.{head, Rail, Railed}
 use Rattle.run_save_kept.proofs.Weights.{of_tasks, of_others}
 use Rattle.run_save_kept.proofs.Named.{no_arms, has_path, room, Named}
@@ -189,7 +195,7 @@ module _ (a : List ℕ) (some : IsSome a) (n : ℕ) where
         (λ t g. none_in t.thread.who.path t.rest (not_same a t.thread.who.path (λ h. clash (f t.thread.who.path) (ap f (sym h) ∙ e) g))) ts
 
     pub still_there : (v : ℕ) → AllThere v pre post us → AllThere v (without f pre) (without f post) us
-    still_there v h = by_child (two_ways (f child))
+    still_there v h = by_child (cases_Bool (f child))
       where
         by_parent : (f a ≡ true) ⊎ (a ≡ w.path) → AllThere v (without f pre) (without f post) us
         by_parent (inl e) =
@@ -232,7 +238,7 @@ module _ (a : List ℕ) (some : IsSome a) (n : ℕ) where
 
   rests_there : (w : Who) (us : List Up) → Rail w us → due us + lead w us ≤ one (same_path child w.path) + spare us
   rests_there w [] r = omega arith
-  rests_there w (begins x k p gs i ls ∷ us) r = by_test (two_ways (same_path a x.who.path)) (two_ways (eqn n i))
+  rests_there w (begins x k p gs i ls ∷ us) r = by_test (cases_Bool (same_path a x.who.path)) (cases_Bool (eqn n i))
     where
       by_test : (same_path a x.who.path ≡ true) ⊎ (same_path a x.who.path ≡ false) → (eqn n i ≡ true) ⊎ (eqn n i ≡ false) →
           arms_of a n x.who.path (runs i ∷ []) + 0 ≤ one (same_path child w.path) + 0
@@ -276,7 +282,7 @@ module _ (a : List ℕ) (some : IsSome a) (n : ℕ) where
       has_path a (up ++ i ∷ []) + of_others (has_path a) no_arms pre (y ∷ post) [] trees ≤ room a left →
       asked pre + asked (y ∷ post) ≤ one (same_path child (up ++ i ∷ [])) + (there pre + there (y ∷ post)) →
       asked pre + asked (y ∷ post) ≤ there pre + there (y ∷ post)
-  no_group up i v y pre post trees left e q h b = by_test (two_ways (same_path child (up ++ i ∷ [])))
+  no_group up i v y pre post trees left e q h b = by_test (cases_Bool (same_path child (up ++ i ∷ [])))
     where
       by_test : (same_path child (up ++ i ∷ []) ≡ true) ⊎ (same_path child (up ++ i ∷ []) ≡ false) →
           asked pre + asked (y ∷ post) ≤ there pre + there (y ∷ post)
@@ -305,7 +311,7 @@ module _ (a : List ℕ) (some : IsSome a) (n : ℕ) where
       asked pre + asked (y ∷ post) ≤ one (same_path child (up ++ i ∷ [])) + (there pre + there (y ∷ post)) →
       arms_of a n y.thread.who.path (with_did i v gs) + (asked pre + (asked post + 0)) ≤ one (same_path child y.thread.who.path) +
       (there pre + (there post + 0))
-  joins up i v y gs pre post e q r b = by_test (two_ways (same_path child (up ++ i ∷ [])))
+  joins up i v y gs pre post e q r b = by_test (cases_Bool (same_path child (up ++ i ∷ [])))
     where
       by_test : (same_path child (up ++ i ∷ []) ≡ true) ⊎ (same_path child (up ++ i ∷ []) ≡ false) →
           arms_of a n y.thread.who.path (with_did i v gs) + (asked pre + (asked post + 0)) ≤ one (same_path child y.thread.who.path) +
@@ -387,8 +393,8 @@ module _ (a : List ℕ) (some : IsSome a) (n : ℕ) where
   present (m.joins {up = up} {n = i} {v = v} {y = y} {k = k} {p = p} {gs = gs} {pre = pre} {post = post} e q t) r d b =
       (joins up i v y gs pre post e (ap (in_group (arms_of a n) y.thread.who.path) q) t b.0, b.1)
   present (m.woken {before = before} {behind = behind} {pre = pre} {post = post} {y = y} e q i) r d b =
-      let t = subst TreesThere e b in let u = back_each (λ ts. asked ts ≤ there ts) before (onto pre (y ∷ post) ∷ behind) t in
+      let t = subst TreesThere e b in let u = each_back (λ ts. asked ts ≤ there ts) before (onto pre (y ∷ post) ∷ behind) t in
       let g = u.0 in let h = onto_sum (awaits a n) pre (y ∷ post) in let j = onto_sum (is_named child) pre (y ∷ post) in (
         omega (arith, g, h, j),
-        (tt, front_each (λ ts. asked ts ≤ there ts) before (onto pre (y ∷ post) ∷ behind) t, u.1),
+        (tt, each_front (λ ts. asked ts ≤ there ts) before (onto pre (y ∷ post) ∷ behind) t, u.1),
       )

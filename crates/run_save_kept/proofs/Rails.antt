@@ -7,11 +7,12 @@ use Rattle.verse_code_machine.specs.Cancelling.{cancelled}
 use Rattle.verse_code_machine_parents.specs.Parents.{whos, line}
 use Rattle.verse_code_machine_parents.proofs.Lists.{onto_line, child_longer, longer, since_takes, arms_takes}
 use Rattle.run_save_shots.specs.Lists.{Each}
+use Rattle.run_save_shots.proofs.Lists.{each_back}
 use Rattle.run_save_moves.specs.Moves as m
 use Rattle.run_save_moves.specs.Moves.{Point, Move}
 use Rattle.run_save_fits.specs.Held.{WhoIs}
 use Rattle.run_save_kept.specs.Orders.{Lined}
-use Rattle.run_save_kept.proofs.Sums.{cancelled_each, back_each}
+use Rattle.run_save_kept.proofs.Sums.{cancelled_each}
 use Rattle.run_save_kept.proofs.Lines.{Lines, TreesLined}
 
 -- the task of which others are cancelled
@@ -120,4 +121,4 @@ rails (m.joins {y = y} {pre = pre} {post = post} {s = s} e r i) l a = sits s.clo
 rails (m.woken {before = before} {behind = behind} {pre = pre} {post = post} {y = y} {s = s} e r i) l a =
     sits s.clock.left pre y.thread.who (whos post)
     (subst (Lined s.clock.left) (onto_line pre (y ∷ post))
-    (back_each (λ ts. Lined s.clock.left (whos ts)) before (onto pre (y ∷ post) ∷ behind) (subst (TreesLined s.clock.left) e l)).0)
+    (each_back (λ ts. Lined s.clock.left (whos ts)) before (onto pre (y ∷ post) ∷ behind) (subst (TreesLined s.clock.left) e l)).0)

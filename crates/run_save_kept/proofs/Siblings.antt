@@ -1,17 +1,19 @@
 -- Where each task stands before those that it encloses, siblings stand in the order in which they began.
 use Rattle.std.proofs.Common.{◌≡◌, ℕ, ◌+◌, ◌≤◌, ◌<◌, List, [], ◌∷◌, ◌++◌, Bool, true, false, cond, refl, sym, subst, ap, ◌∙◌, arith}
 use mathlib.Core.Logic.{inl, inr}
+use Rattle.verse_base.proofs.Facts.{append_one}
 use Rattle.verse_code_machine.specs.Tasks.{Role, root, part, Who, Task, same_path}
 use Rattle.verse_code_machine.specs.Runs.{Forest}
 use Rattle.verse_code_machine_parents.specs.Parents.{whos, Rooted}
 use Rattle.verse_code_machine_parents.proofs.Lists.{rooted_tail}
 use Rattle.run_save_shots.specs.Lists.{Each, EachTwo}
 use Rattle.run_save_shots.specs.Keeping.{behind_parent, walked, walk}
+use Rattle.run_save_shots.proofs.Lists.{each_join, all_as, two_join}
 use Rattle.run_save_fits.specs.Held.{IsSome, RoleIs, WhoIs, tasks_sum, trees_sum, one}
-use Rattle.run_save_fits.proofs.KeptOrder.{IsIn, Follows, InWalk, walk_well}
+use Rattle.run_save_fits.proofs.KeptOrder.{IsIn, Follows, InWalk, walk_well, in_front, walked_well}
+use Rattle.run_save_fits.proofs.KeptAll.{behind_each, walked_each, walked_sum, tasks_join}
 use Rattle.run_save_kept.specs.Orders.{Before, StandsBefore, Lined, is_named}
 use Rattle.run_save_kept.proofs.Paths.{siblings_fall}
-use Rattle.run_save_kept.proofs.Sums.{tasks_join, each_join, all_as}
 
 -- the second of two siblings began later
 abbrev pub Older : Task → Task → Type 0
@@ -32,48 +34,15 @@ older t u a b h s e = siblings_fall t.up t.number u.number
 -- ---- lists
 
 module _ (P : Task → Type 0) where
-  cond_each : (b : Bool) (xs ys : List Task) → Each P xs → Each P ys → Each P (cond b xs ys)
-  cond_each true xs ys a b = a
-  cond_each false xs ys a b = b
-
-  behind_each : (y : Task) (xs : List Task) → P y → Each P xs → Each P (behind_parent y xs)
-  behind_each y [] a b = (a, tt)
-  behind_each y (x ∷ xs) a b = cond_each (same_path y.thread.who.up x.thread.who.path) (x ∷ y ∷ xs) (x ∷ behind_parent y xs) (b.0, (a, b.1)) (
-    b.0,
-    behind_each y xs a b.1,
-  )
-
-  pub walked_each : (ys : List Task) → Each P ys → Each P (walked ys)
-  walked_each [] a = tt
-  walked_each (y ∷ ys) a = behind_each y (walked ys) a.0 (walked_each ys a.1)
-
   pub walk_each : (tss : Forest) → Each (λ ts. Each P ts) tss → Each P (walk tss)
   walk_each [] a = tt
-  walk_each (ts ∷ tss) a = each_join P (walked ts) (walk tss) (walked_each ts a.0) (walk_each tss a.1)
+  walk_each (ts ∷ tss) a = each_join P (walked ts) (walk tss) (walked_each P ts a.0) (walk_each tss a.1)
 
 module _ (f : Task → ℕ) where
-  cond_sum : (b : Bool) (xs ys : List Task) (n : ℕ) → tasks_sum f xs ≡ n → tasks_sum f ys ≡ n → tasks_sum f (cond b xs ys) ≡ n
-  cond_sum true xs ys n a b = a
-  cond_sum false xs ys n a b = b
-
-  behind_sum : (y : Task) (xs : List Task) → tasks_sum f (behind_parent y xs) ≡ f y + tasks_sum f xs
-  behind_sum y [] = refl
-  behind_sum y (x ∷ xs) = let h = behind_sum y xs in cond_sum (same_path y.thread.who.up x.thread.who.path) (x ∷ y ∷ xs)
-      (x ∷ behind_parent y xs) (f y + (f x + tasks_sum f xs)) (omega arith) (omega (arith, h))
-
-  pub walked_sum : (ys : List Task) → tasks_sum f (walked ys) ≡ tasks_sum f ys
-  walked_sum [] = refl
-  walked_sum (y ∷ ys) = let h = walked_sum ys in let g = behind_sum y (walked ys) in omega (arith, h, g)
-
   pub walk_sum : (tss : Forest) → tasks_sum f (walk tss) ≡ trees_sum f tss
   walk_sum [] = refl
-  walk_sum (ts ∷ tss) = let a = tasks_join f (walked ts) (walk tss) in let b = walked_sum ts in let d =
+  walk_sum (ts ∷ tss) = let a = tasks_join f (walked ts) (walk tss) in let b = walked_sum f ts in let d =
       walk_sum tss in omega (arith, a, b, d)
-
-two_join : {A : Type 0} (R : A → A → Type 0) (xs ys : List A) → EachTwo R xs → EachTwo R ys → Each (λ x. Each (R x) ys) xs →
-    EachTwo R (xs ++ ys)
-two_join R [] ys a b d = b
-two_join R (x ∷ xs) ys a b d = (each_join (R x) xs ys a.0 d.0, two_join R xs ys a.1 b d.1)
 
 line_names : (left : ℕ) (ts : List Task) → Lined left (whos ts) → Each Named ts
 line_names left [] a = tt
@@ -125,9 +94,6 @@ put y (x ∷ xs) seen n w out o t = by_test (same_path y.thread.who.up x.thread.
     by_test true e h = ((first, t.0), (o.1, t.1))
     by_test false e h = (behind_each (Older x) y xs first t.0, h (in_end y.thread.who.up seen x out e))
 
-walked_well : (left : ℕ) (ts : List Task) → Rooted left (whos ts) → InWalk [] (walked ts)
-walked_well left ts r = subst (InWalk []) (nil_end (walked ts)) (walk_well left (ts ∷ []) (r, tt))
-
 walked_older : (left : ℕ) (ts : List Task) → Rooted left (whos ts) → Lined left (whos ts) → EachTwo Older (walked ts)
 walked_older left [] r a = tt
 walked_older left (y ∷ ys) r a = put y (walked ys) [] (walked_each Named ys (line_names left ys a.2)) (walked_well left ys (rooted_tail r))
@@ -140,11 +106,6 @@ in_sum path [] h = absurd h
 in_sum path (x ∷ xs) (inl e) = let f = ap one e in omega (arith, f)
 in_sum path (x ∷ xs) (inr h) = let f = in_sum path xs h in omega (arith, f)
 
-front_in : (path : List ℕ) (xs ys : List Task) → IsIn path xs → IsIn path (xs ++ ys)
-front_in path (x ∷ xs) ys (inl e) = inl e
-front_in path (x ∷ xs) ys (inr h) = inr (front_in path xs ys h)
-front_in path [] ys h = absurd h
-
 -- its parent is among them
 abbrev pub HasOwn : List Task → Task → Type 0
 HasOwn all t = IsSome t.thread.who.up → 1 ≤ tasks_sum (is_named t.thread.who.up) all
@@ -152,17 +113,13 @@ HasOwn all t = IsSome t.thread.who.up → 1 ≤ tasks_sum (is_named t.thread.who
 follows_parent : (q : Role) (t : Task) (seen rest : List Task) → RoleIs q t.thread.who → Follows q t.thread.who.up seen →
     HasOwn (seen ++ rest) t
 follows_parent (root entry) t seen rest a f s = absurd (subst IsSome a.0 s)
-follows_parent part t seen rest a f s = in_sum t.thread.who.up (seen ++ rest) (front_in t.thread.who.up seen rest f)
-
-join : (xs : List Task) (x : Task) (zs : List Task) → xs ++ x ∷ zs ≡ (xs ++ x ∷ []) ++ zs
-join [] x zs = refl
-join (z ∷ xs) x zs = ap (λ ys. z ∷ ys) (join xs x zs)
+follows_parent part t seen rest a f s = in_sum t.thread.who.up (seen ++ rest) (in_front t.thread.who.up seen rest f)
 
 pub parents_from : (seen xs : List Task) → Each Named xs → InWalk seen xs → Each (HasOwn (seen ++ xs)) xs
 parents_from seen [] n w = tt
 parents_from seen (x ∷ xs) n w = (
   follows_parent x.thread.who.role x seen (x ∷ xs) n.0 w.0,
-  subst (λ all. Each (HasOwn all) xs) (sym (join seen x xs)) (parents_from (seen ++ x ∷ []) xs n.1 w.1),
+  subst (λ all. Each (HasOwn all) xs) (sym (append_one seen x xs)) (parents_from (seen ++ x ∷ []) xs n.1 w.1),
 )
 
 pub walked_parents : (left : ℕ) (ts : List Task) → Rooted left (whos ts) → Lined left (whos ts) →

@@ -1,30 +1,24 @@
 -- Sums over the tasks of a run.
-use Rattle.std.proofs.Common.{◌≡◌, ℕ, ◌+◌, ◌≤◌, List, [], ◌∷◌, ◌++◌, Bool, true, false, cond, refl, sym, subst, ap, arith}
+use Rattle.std.proofs.Common.{◌≡◌, ℕ, ◌+◌, ◌≤◌, List, [], ◌∷◌, ◌++◌, Bool, true, false, cond, refl, arith}
 use Rattle.verse_code_machine.specs.Tasks.{Task, World, onto, starts}
 use Rattle.verse_code_machine.specs.Cancelling.{without, inserted, gone_before, gone_behind, cancelled}
 use Rattle.verse_code_machine.specs.Runs.{Forest}
-use Rattle.run_save_shots.specs.Lists.{Each, Reordered, no_elements, one_more}
+use Rattle.run_save_shots.specs.Lists.{Each}
+use Rattle.run_save_shots.proofs.Lists.{each_join}
 use Rattle.run_save_fits.specs.Held.{tasks_sum, trees_sum}
+use Rattle.run_save_fits.proofs.KeptAll.{tasks_join, trees_join}
 
 module _ (f : Task → ℕ) where
-  pub tasks_join : (xs ys : List Task) → tasks_sum f (xs ++ ys) ≡ tasks_sum f xs + tasks_sum f ys
-  tasks_join [] ys = omega arith
-  tasks_join (x ∷ xs) ys = let h = tasks_join xs ys in omega (arith, h)
-
-  pub trees_join : (xs ys : Forest) → trees_sum f (xs ++ ys) ≡ trees_sum f xs + trees_sum f ys
-  trees_join [] ys = omega arith
-  trees_join (x ∷ xs) ys = let h = trees_join xs ys in omega (arith, h)
-
   pub onto_sum : (xs ts : List Task) → tasks_sum f (onto xs ts) ≡ tasks_sum f xs + tasks_sum f ts
   onto_sum [] ts = omega arith
   onto_sum (x ∷ xs) ts = let h = onto_sum xs (x ∷ ts) in omega (arith, h)
 
   pub among_sum : (ts : List Task) (before behind : Forest) →
       trees_sum f (before ++ ts ∷ behind) ≡ tasks_sum f ts + (trees_sum f before + trees_sum f behind)
-  among_sum ts before behind = let h = trees_join before (ts ∷ behind) in omega (arith, h)
+  among_sum ts before behind = let h = trees_join f before (ts ∷ behind) in omega (arith, h)
 
   pub one_tree : (tss : Forest) (ts : List Task) → trees_sum f (tss ++ ts ∷ []) ≡ trees_sum f tss + tasks_sum f ts
-  one_tree tss ts = let h = trees_join tss (ts ∷ []) in omega (arith, h)
+  one_tree tss ts = let h = trees_join f tss (ts ∷ []) in omega (arith, h)
 
   cond_is : (b : Bool) (xs ts : List Task) (n : ℕ) → (b ≡ true → tasks_sum f xs ≡ n) → (b ≡ false → tasks_sum f ts ≡ n) →
       tasks_sum f (cond b xs ts) ≡ n
@@ -57,18 +51,13 @@ module _ (f : Task → ℕ) where
       tasks_sum f (cancelled g o) + (tasks_sum f (without g o.pre) + tasks_sum f (without g o.post)) ≡ tasks_sum f o.pre +
       tasks_sum f o.post
   cancelled_sum g o =
-      let a = tasks_join (gone_before g o.pre) (gone_behind g o.post) in
+      let a = tasks_join f (gone_before g o.pre) (gone_behind g o.post) in
       let b = before_sum g o.pre in
       let d = behind_sum g o.post in
       omega (arith, a, b, d)
 
   pub fewer : (g : List ℕ → Bool) (ts : List Task) → tasks_sum f (without g ts) ≤ tasks_sum f ts
   fewer g ts = let b = behind_sum g ts in omega (arith, b)
-
-  pub reordered_sum : {xs zs : Forest} → Reordered xs zs → trees_sum f zs ≡ trees_sum f xs
-  reordered_sum no_elements = refl
-  reordered_sum (one_more {x = x} {xs = xs} {zs = zs} front back e o) = let h = reordered_sum o in let a = trees_join front (x ∷ back) in
-      let b = trees_join front back in let d = ap (trees_sum f) e in omega (arith, h, a, b, d)
 
 -- what stays of a list weighs as much, where those that go weigh nothing
 pub stays_sum : (f : Task → ℕ) (g : List ℕ → Bool) → ((t : Task) → g t.thread.who.path ≡ true → f t ≡ 0) → (ts : List Task) →
@@ -140,27 +129,6 @@ trees_most f g i h (ts ∷ tss) = both (tasks_sum f ts) (tasks_sum g ts) (tasks_
 
 -- ---- each task
 
-pub each_join : {A : Type 0} (P : A → Type 0) (xs ys : List A) → Each P xs → Each P ys → Each P (xs ++ ys)
-each_join P [] ys a b = b
-each_join P (x ∷ xs) ys a b = (a.0, each_join P xs ys a.1 b)
-
-pub front_each : {A : Type 0} (P : A → Type 0) (xs ys : List A) → Each P (xs ++ ys) → Each P xs
-front_each P [] ys a = tt
-front_each P (x ∷ xs) ys a = (a.0, front_each P xs ys a.1)
-
-pub back_each : {A : Type 0} (P : A → Type 0) (xs ys : List A) → Each P (xs ++ ys) → Each P ys
-back_each P [] ys a = a
-back_each P (x ∷ xs) ys a = back_each P xs ys a.1
-
-pub all_as : {A : Type 0} (P Q : A → Type 0) → ((x : A) → P x → Q x) → (xs : List A) → Each P xs → Each Q xs
-all_as P Q f [] a = tt
-all_as P Q f (x ∷ xs) a = (f x a.0, all_as P Q f xs a.1)
-
-pub reordered_each : {A : Type 0} (P : A → Type 0) {xs zs : List A} → Reordered xs zs → Each P xs → Each P zs
-reordered_each P no_elements a = tt
-reordered_each P (one_more {x = x} front back e o) a = let b = reordered_each P o a.1 in
-    subst (Each P) (sym e) (each_join P front (x ∷ back) (front_each P front back b) (a.0, back_each P front back b))
-
 -- of those that go
 module _ (P : Task → Type 0) (g : List ℕ → Bool) (h : (t : Task) → g t.thread.who.path ≡ true → P t) where
   cond_each : (b : Bool) (xs ys : List Task) → (b ≡ true → Each P xs) → (b ≡ false → Each P ys) → Each P (cond b xs ys)
@@ -186,3 +154,7 @@ module _ (P : Task → Type 0) (g : List ℕ → Bool) (h : (t : Task) → g t.t
 
   pub cancelled_each : (o : World) → Each P (cancelled g o)
   cancelled_each o = each_join P (gone_before g o.pre) (gone_behind g o.post) (before_each o.pre) (behind_each o.post)
+
+pub sums_add : (f g : Task → ℕ) (ts : List Task) → tasks_sum (λ t. f t + g t) ts ≡ tasks_sum f ts + tasks_sum g ts
+sums_add f g [] = refl
+sums_add f g (t ∷ ts) = let h = sums_add f g ts in omega (arith, h)

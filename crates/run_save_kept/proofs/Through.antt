@@ -13,9 +13,9 @@ use Rattle.run_save_moves.specs.Moves as m
 use Rattle.run_save_moves.specs.Moves.{Point, Move}
 use Rattle.run_save_fits.specs.Held.{IsSome, trees_sum, one}
 use Rattle.run_save_fits.proofs.Turning as t
+use Rattle.run_save_fits.proofs.Counted.{ltn_less, one_most}
 use Rattle.run_save_kept.specs.Orders.{last, is_named, in_group, weight, Orderly}
 use Rattle.run_save_kept.specs.Laws.{StageOrderly, RunIsOrderly, OrderlyGoesOn}
-use Rattle.run_save_kept.proofs.Paths.{one_most, ltn_less}
 use Rattle.run_save_kept.proofs.Sums.{trees_as}
 use Rattle.run_save_kept.proofs.Rails.{Railed, rails}
 use Rattle.run_save_kept.proofs.Lines.{Lines, lines, rows, trees_lower}

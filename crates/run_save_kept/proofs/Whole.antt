@@ -11,17 +11,13 @@ use Rattle.run_save_shots.specs.Fitting.{Fits}
 use Rattle.run_save_shots.specs.Keeping.{walk, kept}
 use Rattle.run_save_fits.specs.Held.{IsSome, tasks_sum, trees_sum, one}
 use Rattle.run_save_fits.specs.Laws.{FitsApart, StoppedRunFits, ResumedRunFits}
+use Rattle.run_save_fits.proofs.KeptAll.{reordered_each, reordered_sum, each_rooted}
+use Rattle.run_save_fits.proofs.Counted.{one_most}
 use Rattle.run_save_kept.specs.Orders.{Lined, last, is_named, awaits, skips, weight, Orderly}
 use Rattle.run_save_kept.specs.Laws.{StageOrderly, SavedStatesFit, ResumedStatesFit}
-use Rattle.run_save_kept.proofs.Paths.{one_most}
-use Rattle.run_save_kept.proofs.Sums.{reordered_each, reordered_sum}
 use Rattle.run_save_kept.proofs.Siblings.{Named, trees_names, walk_each, walk_sum, walk_older}
 use Rattle.run_save_kept.proofs.Arms.{arms_fit, order_fits}
 use Rattle.run_save_kept.proofs.Through.{run_stands, stands_on}
-
-each_rooted : (left : ℕ) (tss : Forest) → TreesRooted left tss → Each (λ ts. Rooted left (whos ts)) tss
-each_rooted left [] r = tt
-each_rooted left (ts ∷ tss) r = (r.0, each_rooted left tss r.2)
 
 trees_less : (f g : Task → ℕ) (tss : Forest) → Each (λ ts. tasks_sum f ts ≤ tasks_sum g ts) tss → trees_sum f tss ≤ trees_sum g tss
 trees_less f g [] a = omega arith

@@ -2,19 +2,23 @@
 use Rattle.std.proofs.Common.{◌≡◌, ℕ, suc, ◌+◌, ◌≤◌, ◌<◌, List, [], ◌∷◌, ◌++◌, Bool, true, false, cond, refl, sym, subst, ap, ◌∙◌, arith}
 use Rattle.std.proofs.Common.{◌⊎◌}
 use mathlib.Core.Logic.{inl, inr}
+use Rattle.std.proofs.lemmas.Bool.{cases_Bool}
+use Rattle.verse_base.proofs.Facts.{clash}
 use Rattle.verse_code.specs.declared.codes.Code.{Code}
 use Rattle.verse_meaning_state.specs.Waits.{ltn}
 use Rattle.verse_code_machine.specs.Tasks.{Part, did, runs, Rest, asleep, group, thread, Task, Up, begins, branching, spawning, clearing}
 use Rattle.verse_code_machine.specs.Tasks.{Trees}
 use Rattle.verse_code_machine.specs.Tasks.{world, child_named, same_path}
 use Rattle.verse_meaning_state.specs.State.{stepped}
+use Rattle.verse_meaning_state.proofs.Numbers.{ltn_is_not, ltn_is, ltn_no}
 use Rattle.verse_code_machine.specs.Ends.{is_run, with_did}
+use Rattle.verse_code_machine.proofs.Paths.{same_is}
 use Rattle.run_save_moves.specs.Moves as m
 use Rattle.run_save_moves.specs.Moves.{Point, Move}
 use Rattle.run_save_fits.specs.Held.{IsSome, one}
+use Rattle.run_save_fits.proofs.Counted.{one_most}
 use Rattle.run_save_kept.specs.Orders.{last, skips, in_group, weight}
-use Rattle.run_save_kept.proofs.Paths.{two_ways, clash, one_most, same_is, is_same, not_same, end_is, last_end, root_no_part, ltn_not}
-use Rattle.run_save_kept.proofs.Paths.{ltn_is, ltn_no}
+use Rattle.run_save_kept.proofs.Paths.{is_same, not_same, end_is, last_end, root_no_part}
 use Rattle.run_save_kept.proofs.Paths.{run_end, run_new, run_did, run_more, with_other, with_run}
 use Rattle.run_save_kept.proofs.Sums.{sums_most, trees_most}
 use Rattle.run_save_kept.proofs.Rails.{Railed}
@@ -114,7 +118,7 @@ module _ (a : List ℕ) (some : IsSome a) (n k : ℕ) (le : n ≤ k) where
 
   -- no task has a number that is to come
   to_come : (l left : ℕ) → suc l ≡ left → n ≤ l → room child left ≡ 0
-  to_come l left e h = ap one (ltn_not left (suc (last child)) (late n l left (last child) e h (last_end a n)))
+  to_come l left e h = ap one (ltn_no left (suc (last child)) (late n l left (last child) e h (last_end a n)))
     where
       late : (n l left i : ℕ) → suc l ≡ left → n ≤ l → i ≡ n → suc i ≤ left
       late n l left i e h f = omega (arith, e, h, f)
@@ -138,7 +142,7 @@ module _ (a : List ℕ) (some : IsSome a) (n k : ℕ) (le : n ≤ k) where
   by_special : {x y : Point} → Special x y → Railed x → ((p : List ℕ) → Named p x) → Young x → Young y
   by_special (spawned {l = l} e) r names b = let h = root_other l in omega (arith, h, b)
   by_special (branched {w = w} {o = o} {s = s} {f = f} {fs = fs} {l = l} {place = place} e) r names b =
-      by_test (two_ways (same_path child (w.path ++ l ∷ [])))
+      by_test (cases_Bool (same_path child (w.path ++ l ∷ [])))
     where
       by_test : (same_path child (w.path ++ l ∷ []) ≡ true) ⊎ (same_path child (w.path ++ l ∷ []) ≡ false) →
           Young (m.acts (m.at (child_named w l) (world o.pre o.post (branching (thread w f fs) ∷ o.ups) o.trees) (stepped l s)
@@ -154,7 +158,7 @@ module _ (a : List ℕ) (some : IsSome a) (n k : ℕ) (le : n ≤ k) where
           same_most i j e = omega (arith, e)
       by_test (inr q) = let h = ap one q in omega (arith, h, b)
   by_special (arm_begun {k = kind} {p = p} {gs = gs} {n = label} {l = l} {ls = ls} {x = x} {pre = pre} {post = post} {us = us}
-      {trees = trees} {s = s} e) r names b = by_parent (two_ways (same_path a x.who.path))
+      {trees = trees} {s = s} e) r names b = by_parent (cases_Bool (same_path a x.who.path))
     where
       by_child : same_path a x.who.path ≡ true → n ≤ l → (same_path child (x.who.path ++ l ∷ []) ≡ true) ⊎
           (same_path child (x.who.path ++ l ∷ []) ≡ false) →
@@ -181,20 +185,20 @@ module _ (a : List ℕ) (some : IsSome a) (n k : ℕ) (le : n ≤ k) where
           far : (l n k : ℕ) → l < n → n ≤ k → l < k
           far l n k h e = omega (arith, h, e)
       by_number q (inr i) =
-          let g = names child in let h = to_come l s.clock.left e (ltn_no l n i) in
+          let g = names child in let h = to_come l s.clock.left e (ltn_is_not l n i) in
           let j = names a in let t = ap one q in let u = room_most a s.clock.left in
           let v = most pre post us trees in
-          let z = by_child q (ltn_no l n i) (two_ways (same_path child (x.who.path ++ l ∷ []))) in
+          let z = by_child q (ltn_is_not l n i) (cases_Bool (same_path child (x.who.path ++ l ∷ []))) in
           omega (arith, g, h, j, t, u, v, z)
 
       by_parent : (same_path a x.who.path ≡ true) ⊎ (same_path a x.who.path ≡ false) →
           Young (m.acts (m.at (child_named x.who l) (world pre post (begins x kind p gs l ls ∷ us) trees) (stepped l s)
           (m.begun l label x.frame.locals) []))
-      by_parent (inl q) = by_number q (two_ways (ltn l n))
+      by_parent (inl q) = by_number q (cases_Bool (ltn l n))
       by_parent (inr q) =
           let t = other_parent x.who.path l q in let u = skips_off x.who.path (gs ++ runs l ∷ []) q in omega (arith, t, u, b)
   by_special (arm_ended {w = w} {v = v} {k = kind} {p = p} {gs = gs} {n = i} {ls = ls} {x = x} {pre = pre} {post = post} {us = us}
-      {trees = trees} {s = s}) r names b = by_test (two_ways (same_path child w.path))
+      {trees = trees} {s = s}) r names b = by_test (cases_Bool (same_path child w.path))
     where
       other : same_path child w.path ≡ false → same_path a x.who.path ≡ true → n ≡ i → ⊥
       other f g h = clash (same_path child w.path)
@@ -208,11 +212,12 @@ module _ (a : List ℕ) (some : IsSome a) (n k : ℕ) (le : n ≤ k) where
 
       by_test : (same_path child w.path ≡ true) ⊎ (same_path child w.path ≡ false) →
           Young (m.gathering kind p (gs ++ did v ∷ []) ls x pre post us trees s)
-      by_test (inl f) = let h = ap one f in let g = skips_most x.who.path (gs ++ did v ∷ []) in let z = one_most (same_path a x.who.path) in
+      by_test (inl f) = let h = ap one f in let g = skips_most x.who.path (gs ++ did v ∷ []) in let z =
+          one_most (same_path a x.who.path) in
           omega (arith, h, g, z, b)
-      by_test (inr f) = let h = by_parent f (two_ways (same_path a x.who.path)) in omega (arith, h, b)
+      by_test (inr f) = let h = by_parent f (cases_Bool (same_path a x.who.path)) in omega (arith, h, b)
   by_special (joined {up = up} {n = i} {v = v} {y = y} {k = kind} {p = p} {gs = gs} {pre = pre} {post = post} {trees = trees} {s = s} e q g)
-      r names b = by_test (two_ways (same_path child (up ++ i ∷ [])))
+      r names b = by_test (cases_Bool (same_path child (up ++ i ∷ [])))
     where
       rest : in_group (skips a n k) y.thread.who.path y.rest ≡ skips a n k y.thread.who.path gs
       rest = ap (in_group (skips a n k) y.thread.who.path) q
@@ -232,7 +237,7 @@ module _ (a : List ℕ) (some : IsSome a) (n k : ℕ) (le : n ≤ k) where
       by_test (inl f) = let h = ap one f in let j = skips_most y.thread.who.path (with_did i v gs) in let z =
           one_most (same_path a y.thread.who.path) in
           omega (arith, h, j, z, b)
-      by_test (inr f) = let h = by_parent f (two_ways (same_path a y.thread.who.path)) in let j = rest in omega (arith, h, j, b)
+      by_test (inr f) = let h = by_parent f (cases_Bool (same_path a y.thread.who.path)) in let j = rest in omega (arith, h, j, b)
 
   by_growth : {x y : Point} → Grown (has_path child) (skips a n k) x y → Railed x → ((p : List ℕ) → Named p x) → Young x → Young y
   by_growth (lessens e f) r names b = omega (arith, e, b)

@@ -1,19 +1,16 @@
 -- Cells that are light are few.
-use Rattle.std.proofs.Common.{◌≡◌, ℕ, suc, ◌+◌, ◌<◌, ◌≤◌, List, [], ◌∷◌, ◌++◌, length, map, reverse, refl, sym, ap, subst, ◌∙◌, arith}
+use Rattle.std.proofs.Common.{◌≡◌, ℕ, suc, ◌+◌, ◌<◌, List, [], ◌∷◌, ◌++◌, length, map, reverse, refl, sym, ap, subst, ◌∙◌, arith}
 use Rattle.std.proofs.lemmas.List.{length-append, reverse-append, append_assoc}
 use Rattle.verse_value.specs.declared.runs.CellKind.{CellKind}
 use Rattle.verse_value.specs.declared.values.Value.{Value}
 use Rattle.verse_value.specs.Store.{Cell, Store, store_weight, with_cell}
 use Rattle.std.specs.Global.{Vec}
+use Rattle.verse_cells.proofs.Weights.{length_store_weight}
 use Rattle.tx_heap.specs.State.{IsLight}
 use Rattle.run_save_shots.specs.View.{cell_of}
 
-few_cells : (cells : Store) → length cells ≤ store_weight cells
-few_cells [] = omega arith
-few_cells (c ∷ cells) = omega (arith, few_cells cells)
-
 pub few : (cells : Store) (c : Cell) → IsLight (with_cell cells c) → length cells < 4294967295
-few cells c light = omega (arith, light, few_cells (with_cell cells c), length-append cells (c ∷ []))
+few cells c light = omega (arith, light, length_store_weight (with_cell cells c), length-append cells (c ∷ []))
 
 weight_append : (xs ys : Store) → store_weight (xs ++ ys) ≡ store_weight xs + store_weight ys
 weight_append [] ys = omega arith

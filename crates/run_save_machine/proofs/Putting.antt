@@ -63,10 +63,6 @@ module _ {A : Type 0} (all rest : List A) (t : A) (at n : ℕ) (is : all ≡ res
   pub one_fewer : at + 1 + length rest ≡ n
   one_fewer = omega (arith, long, ap length is, length-append rest (t ∷ []))
 
-pub no_items : {A : Type 0} (xs : List A) → length xs ≡ 0 → xs ≡ []
-no_items [] e = refl
-no_items (x ∷ xs) e = absurd (omega (arith, e))
-
 -- ---- numbers
 
 numbers_long : (s : Kept) (n : ℕ) (ts : List KeptTask) → length (numbers_from s n ts) ≡ length ts

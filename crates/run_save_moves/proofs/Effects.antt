@@ -3,12 +3,12 @@ use Rattle.std.proofs.Common.{◌≡◌, ℕ, zero, suc, ◌+◌, ◌≤◌, len
 use Rattle.std.proofs.Common.{sym}
 use Rattle.std.proofs.Common.{subst, ap, ◌∙◌, arith, nat_le, option_map, slice_get}
 use Rattle.std.specs.Prelude.{slice_set, if◌then◌else◌, option_and_then}
-use Rattle.std.proofs.lemmas.Bool.Decides.{nat_tests}
 use Rattle.std.proofs.lemmas.List.{length-append}
 use Rattle.verse_base.specs.TraceLine.{line_bytes}
 use Rattle.verse_base.specs.declared.limits.TheConstants.{MOST_TRACE_BYTES}
 use Rattle.verse_base.specs.declared.refusals.Kind.{Kind as Error}
 use Rattle.verse_base.specs.declared.refusals.Kind.TheVariants as kind
+use Rattle.verse_base.proofs.Facts.{nat_le_is}
 use Rattle.verse_code.specs.declared.codes.Code.{Code}
 use Rattle.verse_value.specs.Val.{Val, unit, falsity, truth, int, char, enum, object, event, task, some, array, mapping, tuple}
 use Rattle.verse_value.specs.Keys.{bytes_of}
@@ -61,9 +61,6 @@ slots_more : (c : Code) (z : Scene) (xs : Store) (d : Cell) → SlotsFine c z xs
 slots_more c z [] d a b = (b, tt)
 slots_more c z (x ∷ xs) d a b = (a.0, slots_more c z xs d a.1 b)
 
-light : (n k : ℕ) → nat_le n k ≡ true → n ≤ k
-light n k e = grind (arith, nat_tests)
-
 with_memory : (c : Code) (z : Scene) (s : State) (store : Store) → StateFine c z s → SlotsFine c z store →
     store_weight store ≤ MOST_STORE_WEIGHT → Each (IsEvent store) z.events → StateFine c z (with_store s store)
 with_memory c z s store k a b e = record {
@@ -91,7 +88,8 @@ made_fine c z names f d s k a = two (nat_le (store_weight (with_cell s.memory.st
     two true e = (
       f z.entries (length s.memory.store),
       with_memory c z s (with_cell s.memory.store d) k (slots_more c z s.memory.store d k.memory.slots a)
-          (light (store_weight (with_cell s.memory.store d)) MOST_STORE_WEIGHT e) (events_more s.memory.store d z.events k.memory.events),
+          (nat_le_is (store_weight (with_cell s.memory.store d)) MOST_STORE_WEIGHT e)
+          (events_more s.memory.store d z.events k.memory.events),
     )
     two false e = tt
 
@@ -213,7 +211,7 @@ sized_fine c z store v s k a b d = two (nat_le (store_weight store) MOST_STORE_W
   where
     two : (t : Bool) → nat_le (store_weight store) MOST_STORE_WEIGHT ≡ t →
         EffectFine c z (changed (if t then gives (store, v) else error kind.Store) s)
-    two true e = (d, with_memory c z s store k a (light (store_weight store) MOST_STORE_WEIGHT e) b)
+    two true e = (d, with_memory c z s store k a (nat_le_is (store_weight store) MOST_STORE_WEIGHT e) b)
     two false e = tt
 
 with_fine : (c : Code) (z : Scene) (i slot : ℕ) (a : Answer (Val × Val)) (s : State) → StateFine c z s → TwoFit z.entries a →
@@ -304,7 +302,7 @@ told_fine c z bytes s k = two (nat_le (printed_by s + length (line_bytes s.clock
           weight = k.memory.weight;
           told = few z.bytes s.clock.before.bytes (length (printed s.memory.trace)) (length (line_bytes s.clock.now bytes)) MOST_TRACE_BYTES
               (length (printed (s.memory.trace ++ record { moment = s.clock.now; bytes = bytes } ∷ []))) k.before
-              (light (printed_by s + length (line_bytes s.clock.now bytes)) MOST_TRACE_BYTES e)
+              (nat_le_is (printed_by s + length (line_bytes s.clock.now bytes)) MOST_TRACE_BYTES e)
               (printed_more s.memory.trace (record { moment = s.clock.now; bytes = bytes }));
           events = k.memory.events;
         };

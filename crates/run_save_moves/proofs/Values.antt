@@ -12,6 +12,8 @@ use Rattle.verse_base.specs.declared.refusals.Kind.TheVariants.{Overflow, Size}
 use Rattle.verse_base.specs.Quotients.{floor_quotient, ceil_quotient}
 use Rattle.std.specs.Prelude.{All}
 use Rattle.std.proofs.lemmas.List.Elements.{All-head, All-tail}
+use Rattle.std.proofs.lemmas.Option.{same_Some}
+use Rattle.verse_base.proofs.Facts.{nat_le_is}
 use Rattle.verse_code.specs.declared.operations.Op.{Op}
 use Rattle.verse_code.specs.declared.operations.Op.TheVariants as o
 use Rattle.verse_code.specs.declared.codes.Code.{Code}
@@ -37,6 +39,7 @@ use Rattle.verse_value.specs.Operations.{count, entry_count, length_of, nth_entr
 use Rattle.verse_value.specs.declared.keys.Key.{Key}
 use Rattle.verse_value.specs.declared.keys.Key.TheVariants as key
 use Rattle.verse_value.specs.contracts.keys.KeyEq.TheImpl.Laws.{laws-law}
+use Rattle.verse_value.proofs.Sums.{chars_weigh, chars_flat}
 use Rattle.verse_code_machine.specs.Acts.{paired, Taken, ended, takes, unfit, taken_at, next_low, taken_from, label_of}
 use Rattle.verse_code_machine.specs.Acts.{on_label, labels, after_arms}
 use Rattle.run_save_shots.specs.Lists.{Each}
@@ -416,14 +419,6 @@ sized_text_fits n (Some bs) a = sized_fits n (text_val bs) (chars_sound n bs a)
 pub join_fits : (n : ℕ) (vs : List Val) → ValuesFit n vs → AnswerFits n (join_of vs)
 join_fits n vs a = sized_text_fits n (holes_bytes vs) (holes_sound n vs a)
 
-chars_weigh : (bs : List ℕ) → weights (chars bs) ≡ length bs
-chars_weigh [] = refl
-chars_weigh (b ∷ bs) = omega (arith, chars_weigh bs)
-
-chars_flat : (bs : List ℕ) → most_levels (chars bs) ≤ 1
-chars_flat [] = omega arith
-chars_flat (b ∷ bs) = omega (arith, chars_flat bs)
-
 pub short_text_fits : (n : ℕ) (bs : List ℕ) → length bs ≤ 3999999 → Each (λ b. b ≤ 255) bs → ValueFits n (text_val bs)
 short_text_fits n bs h a = record {
   small = fits_of (text_val bs) (omega (arith, chars_weigh bs, h)) (omega (arith, chars_flat bs));
@@ -436,26 +431,20 @@ all_each : {A : Type 0} (P : A → Type 0) (xs : List A) → All P xs → Each P
 all_each P [] h = tt
 all_each P (x ∷ xs) h = (All-head P x xs h, all_each P xs (All-tail P x xs h))
 
-some_same : {A : Type 0} (x y : A) → Some x ≡ Some y → x ≡ y
-some_same x y e = cc
-
 got_each : {A : Type 0} (P : A → Type 0) (xs : List A) (i : ℕ) (x : A) → Each P xs → slice_get xs i ≡ Some x → P x
 got_each P [] i x a e = absurd (cc)
-got_each P (y ∷ xs) zero x a e = subst P (some_same y x e) a.0
+got_each P (y ∷ xs) zero x a e = subst P (same_Some y x e) a.0
 got_each P (y ∷ xs) (suc i) x a e = got_each P xs i x a.1 e
 
 pub text_fits : (c : Code) → Valid c → TextsAreBytes c → (n i : ℕ) (t : List ℕ) → slice_get c.texts i ≡ Some t → ValueFits n (text_val t)
 text_fits c valid bytes n i t e = short_text_fits n t (got_each IsText c.texts i t (all_each IsText c.texts valid.texts) e)
     (all_each (λ b. b ≤ 255) t (got_each (All (λ b. b ≤ 255)) c.texts i t (all_each (All (λ b. b ≤ 255)) c.texts bytes) e))
 
-below : (n k : ℕ) → nat_le n k ≡ true → n ≤ k
-below n k e = grind (arith, nat_tests)
-
 pub char_operand : (c : Code) → Valid c → (pc n : ℕ) → slice_get c.ops pc ≡ Some (o.Char n) → n ≤ 255
-char_operand c valid pc n e = below n 255 (valid.operations pc (o.Char n) e)
+char_operand c valid pc n e = nat_le_is n 255 (valid.operations pc (o.Char n) e)
 
 pub pause_operand : (c : Code) → Valid c → (pc n : ℕ) → slice_get c.ops pc ≡ Some (o.Sleep n) → (now : ℕ) → now + n ≤ now + 1000000000
-pause_operand c valid pc n e now = let h = below n 1000000000 (valid.operations pc (o.Sleep n) e) in omega (arith, h)
+pause_operand c valid pc n e now = let h = nat_le_is n 1000000000 (valid.operations pc (o.Sleep n) e) in omega (arith, h)
 
 pub after_is : (a n : ℕ) → after_arms a n ≡ a + n
 after_is a zero = omega arith

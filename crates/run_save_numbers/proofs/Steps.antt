@@ -1,10 +1,8 @@
 -- One task more.
-use Rattle.std.proofs.Common.{◌≡◌, ℕ, suc, ◌+◌, ◌-◌, ◌*◌, ◌<◌, ◌≤◌, max, List, [], ◌∷◌, ◌++◌, length, map, set, get_or, take, drop, Some}
+use Rattle.std.proofs.Common.{◌≡◌, ℕ, suc, ◌-◌, ◌*◌, ◌<◌, ◌≤◌, max, List, [], ◌++◌, length, map, set, get_or, take, Some}
 use Rattle.std.proofs.Common.{refl, sym, ap, ◌∙◌, arith}
-use Rattle.std.proofs.lemmas.List.{get_or-map, map-set, drop_more, length-map}
+use Rattle.std.proofs.lemmas.List.{get_or-map, map-set, length-map}
 use Rattle.task_tree.specs.declared.tasks.Role.{Role}
-use Rattle.run_save_shots.specs.declared.shots.TaskShot.{TaskShot}
-use Rattle.run_save_shots.specs.View.{task_of}
 use Rattle.run_save_shots.specs.Kept.{KeptTask, Kept}
 use Rattle.run_save_shots.specs.Naming.{number_at}
 use Rattle.run_save_numbers.specs.declared.tables.TaskNumbers.{TaskNumbers}
@@ -22,8 +20,3 @@ pub one_marked : (all : List TaskNumbers) (parent : ℕ) (role : Role) (n : ℕ)
 one_marked all parent role n old new lt is h =
     map-set numbers_of all parent new ∙
     ap (set (map numbers_of all) parent) (h ∙ ap (λ m. marked n role m) (sym (marks_here all parent old lt is)))
-
--- the tasks from a place on, and those from the next one on
-front : (tasks : List TaskShot) (i : ℕ) (t : TaskShot) → i < length tasks → t ≡ get_or tasks i t →
-    map task_of (drop i tasks) ≡ task_of t ∷ map task_of (drop (i + 1) tasks)
-front tasks i t lt it = ap (map task_of) (drop_more tasks i t lt) ∙ ap (λ u. task_of u ∷ map task_of (drop (i + 1) tasks)) (sym it)

@@ -1,32 +1,20 @@
 -- Trees whose numbers are paired come to the same under two numberings.
-use Rattle.std.proofs.Common.{◌≡◌, ℕ, zero, suc, ◌+◌, ◌*◌, ◌≤◌, ◌<◌, length, List, [], ◌∷◌, ◌++◌, Option, Some, None}
+use Rattle.std.proofs.Common.{◌≡◌, ℕ, suc, ◌+◌, ◌*◌, ◌≤◌, ◌<◌, length, List, [], ◌∷◌, ◌++◌, Option, Some, None}
 use Rattle.std.proofs.Common.{Bool, true, false, cond, option_map}
 use Rattle.std.proofs.Common.{refl, sym, subst, ap, ◌∙◌, arith}
+use Rattle.std.proofs.lemmas.Option.{same_Some}
 use Rattle.verse_meaning_state.specs.Waits.{eqn, ltn, nth}
-use Rattle.verse_code_machine.specs.Tasks.{same_path}
-use Rattle.verse_code_machine_parents.proofs.Lists.{eqn_is, eqn_same}
+use Rattle.verse_meaning_state.proofs.Numbers.{eqn_is, ltn_is_not, eqn_same, ltn_is}
 use Rattle.verse_code_machine_saved.specs.Numbers.{Numbering, Fixed, Pairs, Rising, NoneBelow, beside, turned, spread}
 use Rattle.verse_code_machine_saved.specs.Numbers.{NumberingsMeet, renumbered}
-use Rattle.verse_code_machine_saved.specs.Pairing.{Entry, IsPair, pairs_at, path_at, AreOrdered}
+use Rattle.verse_code_machine_saved.specs.Pairing.{IsPair, pairs_at, path_at}
 use Rattle.verse_code_machine_saved.proofs.Paired.{Level, forests_meet}
+use Rattle.verse_code_machine_saved.proofs.Tables.{rising_at, none_at}
 use Rattle.run_save_shots.specs.Lists.{Each}
 use Rattle.run_save_orders.specs.Roots.{Sorts, AreApart, TreesSorted, with_roots, TableSorts}
 
-pub some_is : {A : Type 0} {x y : A} → Some x ≡ Some y → x ≡ y
-some_is e = cc
-
 pub none_some : {A B : Type 0} {x : A} → None ≡ Some x → B
 none_some e = cc
-
-ltn_is : (k n : ℕ) → ltn k n ≡ true → k < n
-ltn_is k zero e = absurd (cc)
-ltn_is zero (suc n) e = omega arith
-ltn_is (suc k) (suc n) e = let h = ltn_is k n e in omega (arith, h)
-
-ltn_no : (k n : ℕ) → ltn k n ≡ false → n ≤ k
-ltn_no k zero e = omega arith
-ltn_no zero (suc n) e = absurd (cc)
-ltn_no (suc k) (suc n) e = let h = ltn_no k n e in omega (arith, h)
 
 -- ---- numbers by the places of their pairs
 
@@ -51,12 +39,12 @@ first_at (p ∷ ps) n i e = by_test (eqn p.0 n) refl i e (λ j. first_at ps n j)
         ((j : ℕ) → o ≡ Some j → (q : ℕ × ℕ) × (nth ps j ≡ Some q) × (q.0 ≡ n)) →
         (q : ℕ × ℕ) × (nth (p ∷ ps) i ≡ Some q) × (q.0 ≡ n)
     later None i f g = none_some f
-    later (Some j) i f g = subst (λ k. (q : ℕ × ℕ) × (nth (p ∷ ps) k ≡ Some q) × (q.0 ≡ n)) (some_is f) (g j refl)
+    later (Some j) i f g = subst (λ k. (q : ℕ × ℕ) × (nth (p ∷ ps) k ≡ Some q) × (q.0 ≡ n)) (same_Some _ _ f) (g j refl)
 
     by_test : (b : Bool) → eqn p.0 n ≡ b → (i : ℕ) → cond b (Some 0) (option_map suc (place_in ps n)) ≡ Some i →
         ((j : ℕ) → place_in ps n ≡ Some j → (q : ℕ × ℕ) × (nth ps j ≡ Some q) × (q.0 ≡ n)) →
         (q : ℕ × ℕ) × (nth (p ∷ ps) i ≡ Some q) × (q.0 ≡ n)
-    by_test true f i g h = subst (λ k. (q : ℕ × ℕ) × (nth (p ∷ ps) k ≡ Some q) × (q.0 ≡ n)) (some_is g)
+    by_test true f i g h = subst (λ k. (q : ℕ × ℕ) × (nth (p ∷ ps) k ≡ Some q) × (q.0 ≡ n)) (same_Some _ _ g)
         (p, refl, eqn_is p.0 n f)
     by_test false f i g h = later (place_in ps n) i g h
 
@@ -64,7 +52,7 @@ one_place : (ps : Pairs) (n k i : ℕ) → place_in ps n ≡ Some i → place_in
 one_place ps n k i e f =
     let a = first_at ps n i e in
     let b = first_at ps k i f in
-    sym a.2 ∙ (ap (λ (p : ℕ × ℕ). p.0) (some_is (sym a.1 ∙ b.1)) ∙ b.2)
+    sym a.2 ∙ (ap (λ (p : ℕ × ℕ). p.0) (same_Some _ _ (sym a.1 ∙ b.1)) ∙ b.2)
 
 placed_apart : (bound : ℕ) (ps : Pairs) (n k : ℕ) → placed bound ps n ≡ placed bound ps k → n ≡ k
 placed_apart bound ps n k e = by_tests (ltn n bound) (ltn k bound) refl refl e
@@ -98,7 +86,7 @@ placed_fixed bound ps n h = by_test (ltn n bound) refl
 
     by_test : (b : Bool) → ltn n bound ≡ b → cond b n (by_place bound n (place_in ps n)) ≡ n
     by_test true e = refl
-    by_test false e = absurd (no n bound h (ltn_no n bound e))
+    by_test false e = absurd (no n bound h (ltn_is_not n bound e))
 
 placed_at : (bound : ℕ) (ps : Pairs) (n i : ℕ) → bound ≤ n → place_in ps n ≡ Some i → placed bound ps n ≡ bound + 2 * i
 placed_at bound ps n i h e = by_test (ltn n bound) refl ∙ ap (by_place bound n) e
@@ -221,19 +209,6 @@ trees_sorted law f first s tss uss start apart rising none p = record {
 }
 
 -- ---- by a table
-
-either : {A : Type 0} (P : A → Type 0) (b : Bool) (x y : A) → P x → P y → P (cond b x y)
-either P true x y p q = p
-either P false x y p q = q
-
-rising_at : (bound : ℕ) (es : List Entry) (a : List ℕ) → AreOrdered bound es → Rising (pairs_at es a)
-rising_at bound [] a h = tt
-rising_at bound (e ∷ es) a h = either Rising (same_path e.path a) e.pairs (pairs_at es a) h.0 (rising_at bound es a h.2)
-
-none_at : (bound : ℕ) (es : List Entry) (a : List ℕ) → AreOrdered bound es → NoneBelow bound (pairs_at es a)
-none_at bound [] a h = tt
-none_at bound (e ∷ es) a h = either (NoneBelow bound) (same_path e.path a) e.pairs (pairs_at es a) h.1
-    (none_at bound es a h.2)
 
 pub table_sorts : NumberingsMeet → TableSorts
 table_sorts law roots es s tss uss apart none ordered p =

@@ -7,9 +7,10 @@ use Rattle.verse_code_machine_saved.specs.Numbers.{RunRenumbered}
 use Rattle.verse_code_machine_saved.specs.Resuming.{apart, behind, SameTrees, RunResumed}
 use Rattle.run_save_shots.specs.Lists.{Each, Reordered, no_elements, one_more}
 use Rattle.run_save_shots.specs.Spelling.{state, trees}
+use Rattle.run_save_shots.proofs.Lists.{all_as}
 use Rattle.run_save_fits.specs.Laws.{StageSavable, RunIsSavable}
+use Rattle.run_save_fits.proofs.KeptAll.{reordered_each}
 use Rattle.run_save_kept.specs.Growing.{filled}
-use Rattle.run_save_kept.proofs.Sums.{all_as, reordered_each}
 use Rattle.run_save_births.specs.Births.{births_of, NoChild, IsBorn, AreBorn}
 use Rattle.run_save_births.specs.Laws.{StageIsBorn, RunIsBorn}
 use Rattle.run_save_orders.specs.Laws.{RunReordered}

@@ -21,11 +21,10 @@ use Rattle.run_save_moves.specs.Moves.{Point, Move}
 use Rattle.run_save_fits.specs.Held.{trees_sum, tasks_sum, one}
 use Rattle.run_save_fits.proofs.Measures.{held}
 use Rattle.run_save_fits.proofs.Measures as h
-use Rattle.run_save_fits.proofs.Counted.{wait_of}
+use Rattle.run_save_fits.proofs.Counted.{wait_of, one_most}
 use Rattle.run_save_fits.proofs.Turning as t
+use Rattle.run_save_fits.proofs.KeptAll.{reordered_sum, trees_join}
 use Rattle.run_save_kept.specs.Growing.{filled}
-use Rattle.run_save_kept.proofs.Paths.{one_most}
-use Rattle.run_save_kept.proofs.Sums as sums
 use Rattle.run_save_orders.specs.Laws.{SameButOrder, StagesSame, both_go, both_closed, both_broken, both_amiss, TurnsReordered}
 use Rattle.run_save_orders.specs.Laws.{RunReordered}
 use Rattle.run_save_orders.proofs.Ends.{Alike, nexts, overs, turns as turned, woken_both}
@@ -128,13 +127,13 @@ filled_at : (n : ℕ) (ts : List Task) (back : Forest) → has n (waits_of ts) �
 filled_at n [] back e = no_both (sym e)
 filled_at n (t ∷ ts) back e = refl
 
-filled_sum : (f : Task → ℕ) (tss : Forest) → trees_sum f (filled tss) ≡ trees_sum f tss
+pub filled_sum : (f : Task → ℕ) (tss : Forest) → trees_sum f (filled tss) ≡ trees_sum f tss
 filled_sum f [] = refl
 filled_sum f ([] ∷ tss) = let h = filled_sum f tss in omega (arith, h)
 filled_sum f ((t ∷ ts) ∷ tss) = let h = filled_sum f tss in omega (arith, h)
 
 same_sum : (f : Task → ℕ) (tss uss : Forest) → SameButOrder tss uss → trees_sum f uss ≡ trees_sum f tss
-same_sum f tss uss r = sym (filled_sum f uss) ∙ (sums.reordered_sum f r ∙ filled_sum f tss)
+same_sum f tss uss r = sym (filled_sum f uss) ∙ (reordered_sum f r ∙ filled_sum f tss)
 
 abbrev Once : Forest → Type 0
 Once tss = (n : ℕ) → trees_sum (of_number n) tss ≤ 1
@@ -168,7 +167,7 @@ woken_same n v s tss uss r once = by_found (find n tss)
                 none : trees_sum (of_number n) b.front ≡ 0
                 none = alone (trees_sum (of_number n) b.front) (tasks_sum (of_number n) ts) (trees_sum (of_number n) b.back)
                     (subst (λ k. k ≤ 1) (sym (same_sum (of_number n) tss uss r) ∙
-                    (ap (trees_sum (of_number n)) b.is ∙ sums.trees_join (of_number n) b.front (ts ∷ b.back))) (once n))
+                    (ap (trees_sum (of_number n)) b.is ∙ trees_join (of_number n) b.front (ts ∷ b.back))) (once n))
                     (subst (λ k. 1 ≤ k) (tasks_count n ts) (has_some n (waits_of ts) g))
 
                 beside : SameButOrder (front ++ back) (b.front ++ b.back)

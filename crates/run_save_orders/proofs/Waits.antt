@@ -1,16 +1,17 @@
 -- Waits of trees in another order.
-use Rattle.std.proofs.Common.{◌≡◌, ℕ, ◌+◌, ◌≤◌, List, [], ◌∷◌, ◌++◌, Option, Some, None, Bool, true, false, cond, refl, sym, subst, ap, ◌∙◌}
+use Rattle.std.proofs.Common.{◌≡◌, ℕ, ◌+◌, ◌≤◌, List, [], ◌∷◌, ◌++◌, Bool, true, false, cond, refl, sym, subst, ap, ◌∙◌}
 use Rattle.std.proofs.Common.{append_assoc, arith}
-use Rattle.std.proofs.lemmas.Bool.Decides.{nat_tests}
-use Rattle.verse_meaning_state.specs.State.{State, Given}
-use Rattle.verse_meaning_state.specs.Waits.{Wait, eqn, has, Due, due_of, sooner, sooner_of, least}
+use Rattle.verse_meaning_state.specs.State.{State}
+use Rattle.verse_meaning_state.specs.Waits.{Wait, eqn, has, due_of, sooner_of, least}
+use Rattle.verse_meaning_state.proofs.Numbers.{eqn_same}
+use Rattle.verse_meaning_state.proofs.Dues.{sooner_of_swaps}
 use Rattle.verse_code_machine.specs.Tasks.{Rest, asleep, group, Task, waits_with, waits_of, tree_waits}
 use Rattle.verse_code_machine.specs.Runs.{Forest}
-use Rattle.verse_code_machine_parents.proofs.Lists.{no_both, eqn_same}
+use Rattle.verse_code_machine_parents.proofs.Lists.{no_both}
 use Rattle.run_save_shots.specs.Lists.{Each, Reordered, no_elements, one_more}
+use Rattle.run_save_shots.proofs.Lists.{each_join, each_front, each_back}
 use Rattle.run_save_fits.specs.Held.{one, is_wait, tasks_sum, trees_sum}
 use Rattle.run_save_kept.specs.Growing.{filled}
-use Rattle.run_save_kept.proofs.Sums.{each_join, front_each, back_each}
 use Rattle.run_save_orders.proofs.Orders.{with_block}
 
 -- how many waits have the number
@@ -99,19 +100,9 @@ unlike_parts : (a : List Wait) (w : Wait) (b : List Wait) → Unlike (a ++ w ∷
 unlike_parts [] w b u = u
 unlike_parts (v ∷ a) w b u =
     let r = unlike_parts a w b u.1 in
-    let p = front_each (λ x. x.number ≡ v.number → ⊥) a (w ∷ b) u.0 in
-    let q = back_each (λ x. x.number ≡ v.number → ⊥) a (w ∷ b) u.0 in
+    let p = each_front (λ x. x.number ≡ v.number → ⊥) a (w ∷ b) u.0 in
+    let q = each_back (λ x. x.number ≡ v.number → ⊥) a (w ∷ b) u.0 in
     (((λ h. q.0 (sym h)), r.0), (each_join (λ x. x.number ≡ v.number → ⊥) a b p q.1, r.1))
-
-sooner_swaps : (n k : ℕ) (g h : Given) (o : Option Due) → (n ≡ k → ⊥) → sooner n g (sooner k h o) ≡ sooner k h (sooner n g o)
-sooner_swaps n k g h None d = grind (arith, nat_tests)
-sooner_swaps n k g h (Some e) d = grind (arith, nat_tests)
-
-sooner_of_swaps : (n k : ℕ) (a b : Option Given) (o : Option Due) → (n ≡ k → ⊥) →
-    sooner_of n a (sooner_of k b o) ≡ sooner_of k b (sooner_of n a o)
-sooner_of_swaps n k None b o d = refl
-sooner_of_swaps n k (Some g) None o d = refl
-sooner_of_swaps n k (Some g) (Some h) o d = sooner_swaps n k g h o d
 
 least_moved : (s : State) (f : List Wait) (x : Wait) (g : List Wait) → Each (λ v. v.number ≡ x.number → ⊥) f →
     least s (f ++ x ∷ g) ≡ sooner_of x.number (due_of s x.number x.cause) (least s (f ++ g))
@@ -124,7 +115,7 @@ least_same s no_elements u = refl
 least_same s (one_more {x = x} {xs = xs} f g p h) u =
     let r = unlike_parts f x g (subst (λ w. Unlike w) p u) in
     ap (λ o. sooner_of x.number (due_of s x.number x.cause) o) (least_same s h r.1) ∙
-    (sym (least_moved s f x g (front_each (λ v. v.number ≡ x.number → ⊥) f g r.0)) ∙ ap (λ w. least s w) (sym p))
+    (sym (least_moved s f x g (each_front (λ v. v.number ≡ x.number → ⊥) f g r.0)) ∙ ap (λ w. least s w) (sym p))
 
 -- ---- the waits of trees
 

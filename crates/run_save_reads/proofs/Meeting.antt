@@ -1,10 +1,10 @@
 -- What holds of what is read.
-use Rattle.std.proofs.Common.{◌≡◌, ℕ, zero, suc, ◌+◌, ◌-◌, ◌<◌, ◌≤◌, Bool, true, false, cond, ltb, leb, ◌&&◌, List}
-use Rattle.std.proofs.Common.{[], ◌∷◌, length, drop, take}
+use Rattle.std.proofs.Common.{◌≡◌, ℕ, zero, suc, ◌-◌, ◌<◌, ◌≤◌, Bool, true, false, cond, ltb, leb, ◌&&◌, List}
+use Rattle.std.proofs.Common.{[], ◌∷◌, length, take}
 use Rattle.std.proofs.Common.{Option, Some, None, slice_get, Result, Ok, Err, refl, sym, ap, subst, ◌∙◌, arith}
 use Rattle.std.proofs.lemmas.Bool.{ltb-true, leb-true, ltb-false}
-use Rattle.std.proofs.lemmas.List.{get_or-drop}
 use Rattle.std.specs.Prelude.{ℤ}
+use Rattle.verse_base.proofs.Facts.{and_first, and_second}
 use Rattle.verse_image.specs.declared.faults.Flaw.{Flaw}
 use Rattle.verse_image.specs.Numbers.{IsBytes}
 use Rattle.verse_image.specs.Reading.{◌>>=◌, Reader, flaw, integer_at}
@@ -52,17 +52,6 @@ And P x = P x.0 × IsBytes x.1
 abbrev pub Reads : {A : Type 0} → (A → Type 0) → Reader A → Type 0
 Reads P read = (bytes : List ℕ) → IsBytes bytes → Meets (And P) (read bytes)
 
-pub drop_bytes : (n : ℕ) (bytes : List ℕ) → IsBytes bytes → IsBytes (drop n bytes)
-drop_bytes n bytes h i = rw get_or-drop (h (n + i))
-
-and_one : (a b : Bool) → (a && b) ≡ true → a ≡ true
-and_one true b e = refl
-and_one false b e = absurd (cc)
-
-and_two : (a b : Bool) → (a && b) ≡ true → b ≡ true
-and_two true b e = e
-and_two false b e = absurd (cc)
-
 any_chosen : {A : Type 0} (left : ℕ) (o : Option A) → Meets (λ (x : A). Unit {0}) (chosen left o)
 any_chosen left None = tt
 any_chosen left (Some x) = tt
@@ -84,7 +73,7 @@ reads_in rule least most bytes b =
     meets_then (And (λ (n : ℕ). Unit {0})) (And (λ n. (least ≤ n) × (n ≤ most))) (wide_at bytes)
     (λ n. cond (leb least n.0 && leb n.0 most) (Ok n) (Err (flaw rule (length bytes)))) (reads_wide bytes b)
     (λ n p. meets_if (And (λ n. (least ≤ n) × (n ≤ most))) (leb least n.0 && leb n.0 most) (Ok n) (flaw rule (length bytes))
-    (λ t. ((leb-true _ _ (and_one _ _ t), leb-true _ _ (and_two _ _ t)), p.1)))
+    (λ t. ((leb-true _ _ (and_first _ _ t), leb-true _ _ (and_second _ _ t)), p.1)))
 
 pub reads_flag : Reads (λ n. (0 ≤ n) × (n ≤ 1)) flag_at
 reads_flag = reads_in 4 0 1
@@ -152,7 +141,3 @@ reads_many {A} P one h (suc n) bytes b =
     (λ first p. meets_then (And (λ xs. (length xs ≡ n) × Every P xs)) (And (λ xs. (length xs ≡ suc n) × Every P xs))
     (many_at one n first.1) (λ others. Ok (first.0 ∷ others.0, others.1)) (reads_many P one h n first.1 p.1)
     (λ others q. ((ap suc q.0.0, (p.0, q.0.1)), q.1)))
-
-abbrev pub IfThere : {A : Type 0} → (A → Type 0) → Option A → Type 0
-IfThere P None = Unit {0}
-IfThere P (Some x) = P x

@@ -1,32 +1,30 @@
 -- Of tasks at which no rule is broken: parents, Main, arms, depths, the order of siblings, and frames.
 use Rattle.std.proofs.Common.{◌≡◌, ◌≢◌, ◌⊎◌, inl, inr, ℕ, zero, suc, ◌+◌, ◌<◌, ◌≤◌, Bool, true, false, cond, ltb, leb, eqb, not, ◌&&◌, ◌||◌}
-use Rattle.std.proofs.Common.{List, [], ◌∷◌, ◌++◌, length, Option, Some, None, slice_get, refl, sym, ap, subst, ◌∙◌, arith, length-append}
-use Rattle.std.proofs.Common.{append_assoc, append-nil}
-use Rattle.std.proofs.lemmas.Bool.{cases_lt, leb-false, leb-true, le-leb, eqb-true, eqb-false, eq-eqb, or_parts}
+use Rattle.std.proofs.Common.{List, [], ◌∷◌, ◌++◌, length, Option, Some, None, slice_get, refl, sym, ap, subst, ◌∙◌, arith}
+use Rattle.std.proofs.Common.{append-nil}
+use Rattle.std.proofs.lemmas.Bool.{cases_lt, leb-false, leb-true, le-leb, eqb-true, eqb-false, eq-eqb, or_parts, not-false}
+use Rattle.std.proofs.Math.Bool.{and-false}
+use Rattle.verse_base.proofs.Facts.{not_second, length_more, rejoin}
 use Rattle.task_tree.specs.declared.tasks.Role.{Role}
 use Rattle.task_tree.specs.declared.tasks.Role.TheVariants.{Root, Arm, Behind}
 use Rattle.task_tree.specs.Tasks.{is_child}
 use Rattle.verse_code.specs.declared.codes.Code.{Code}
 use Rattle.verse_value.specs.Val.{Val}
 use Rattle.verse_meaning_state.specs.Waits.{Cause, nth}
+use Rattle.verse_meaning_state.proofs.Numbers.{slice_is}
 use Rattle.run_save_shots.specs.Lists.{Each, EachAt, EachTwo, count}
 use Rattle.run_save_shots.specs.Kept.{KeptFrame, KeptRest, leaf, group, KeptTask}
 use Rattle.run_save_shots.specs.Fitting.{ArmsRun, DepthFits, GroupStands, InOrder, MayFollow, ParentBefore, Stand}
 use Rattle.run_save_shots.specs.Fitting.{arms_of, calls, sleeps, stays}
 use Rattle.run_save_shots.specs.Fitting.{awaits_task, awaits_event, gathers, goes_on, frames_in, frames_of, is_arm_of, is_child_of, is_root}
 use Rattle.run_save_shots.specs.Fitting.{is_running, task_stand, unfinished}
+use Rattle.run_save_shots.proofs.Lists.{each_as}
 use Rattle.run_save_format.specs.Whole.{any, arms_break, child_breaks, group_breaks, is_beyond, is_disordered}
 use Rattle.run_save_format.specs.Whole.{is_group, is_later, may_follow}
 use Rattle.run_save_format.specs.Whole.{rest_breaks, role_breaks}
-use Rattle.run_save_reads.proofs.Together.{AllStand, Stands, at_place, none_counted, not_true, second_false, slice_is}
+use Rattle.run_save_reads.proofs.Together.{AllStand, Stands, at_place, none_counted}
 
 -- ---- words on lists
-
-one_behind : {A : Type 0} (before : List A) (t : A) → length (before ++ t ∷ []) ≡ suc (length before)
-one_behind before t = omega (arith, length-append before (t ∷ []))
-
-once_more : {A : Type 0} (before : List A) (t : A) (ts : List A) → (before ++ t ∷ []) ++ ts ≡ before ++ t ∷ ts
-once_more before t ts = append_assoc before (t ∷ []) ts
 
 none_more : (n : ℕ) → n ≡ 0 + n
 none_more n = omega arith
@@ -56,10 +54,6 @@ count_none : {A : Type 0} (test : A → Bool) (xs : List A) → Each (λ x. test
 count_none test [] p = refl
 count_none test (x ∷ xs) p = ap (λ b. cond b (suc (count test xs)) (count test xs)) p.0 ∙ count_none test xs p.1
 
-each_as : {A : Type 0} (P Q : A → Type 0) (xs : List A) → ((x : A) → P x → Q x) → Each P xs → Each Q xs
-each_as P Q [] h p = tt
-each_as P Q (x ∷ xs) h p = (h x p.0, each_as P Q xs h p.1)
-
 two_last : {A : Type 0} (R : A → A → Type 0) (xs : List A) (t : A) → EachTwo R xs → Each (λ u. R u t) xs → EachTwo R (xs ++ t ∷ [])
 two_last R [] t p q = (tt, tt)
 two_last {A = A} R (x ∷ xs) t p q = (last xs p.0, two_last R xs t p.1 q.1)
@@ -68,29 +62,25 @@ two_last {A = A} R (x ∷ xs) t p q = (last xs p.0, two_last R xs t p.1 q.1)
     last [] a = (q.0, tt)
     last (y ∷ ys) a = (a.0, last ys a.1)
 
-and_false : (a : Bool) → (a && false) ≡ false
-and_false true = refl
-and_false false = refl
-
 module _ (c : Code) (spent : ℕ) (all : List KeptTask) where
   pub parents_before : (before : List KeptTask) (frames : ℕ) (ts : List KeptTask) → AllStand c spent all before frames ts →
       EachAt ParentBefore (length before) ts
   parents_before before frames [] a = tt
   parents_before before frames (t ∷ ts) a = (
     λ p e. leb-false _ _ (subst (λ o. is_later (length before) o ≡ false) e a.0.later),
-    subst (λ n. EachAt ParentBefore n ts) (one_behind before t) (parents_before (before ++ t ∷ []) (frames + length t.frames) ts a.1),
+    subst (λ n. EachAt ParentBefore n ts) (length_more before t) (parents_before (before ++ t ∷ []) (frames + length t.frames) ts a.1),
   )
 
   pub main_once : (before : List KeptTask) (frames : ℕ) (ts : List KeptTask) → AllStand c spent all before frames ts →
       count (is_root None) before ≤ 1 → count (is_root None) (before ++ ts) ≤ 1
   main_once before frames [] a low = subst (λ us. count (is_root None) us ≤ 1) (sym (append-nil before)) low
   main_once before frames (t ∷ ts) a low =
-      subst (λ us. count (is_root None) us ≤ 1) (once_more before t ts)
+      subst (λ us. count (is_root None) us ≤ 1) (rejoin before t ts)
       (main_once (before ++ t ∷ []) (frames + length t.frames) ts a.1 (two (is_root None t) refl))
     where
       two : (b : Bool) → is_root None t ≡ b → count (is_root None) (before ++ t ∷ []) ≤ 1
       two true e =
-          (let none = none_counted (is_root None) before (second_false (is_root None t) (any (is_root None) before) a.0.main e) in
+          (let none = none_counted (is_root None) before (not_second (is_root None t) (any (is_root None) before) a.0.main e) in
           let sum = count_last (is_root None) before t in
           let one : cond {A = ℕ} (is_root None t) 1 0 ≡ 1 = ap (λ b. cond {A = ℕ} b 1 0) e in
           omega arith)
@@ -132,14 +122,14 @@ module _ (c : Code) (spent : ℕ) (all : List KeptTask) where
       let there : (is_child (Some p) u.parent && not (may_follow u.role t.role)) ≡ false =
       subst (λ o. is_disordered o t.role u ≡ false) other e in
       let child : is_child (Some p) u.parent ≡ true = subst (λ o. is_child (Some p) o ≡ true) (sym own) (eq-eqb p p refl) in
-      follows u.role t.role (not_true (may_follow u.role t.role) (second_false (is_child (Some p) u.parent)
+      follows u.role t.role (not-false (may_follow u.role t.role) (not_second (is_child (Some p) u.parent)
       (not (may_follow u.role t.role)) there child))
 
   pub all_in_order : (before : List KeptTask) (frames : ℕ) (ts : List KeptTask) → AllStand c spent all before frames ts →
       EachTwo InOrder before → EachTwo InOrder (before ++ ts)
   all_in_order before frames [] a p = subst (EachTwo InOrder) (sym (append-nil before)) p
   all_in_order before frames (t ∷ ts) a p =
-      subst (EachTwo InOrder) (once_more before t ts)
+      subst (EachTwo InOrder) (rejoin before t ts)
       (all_in_order (before ++ t ∷ []) (frames + length t.frames) ts a.1
       (two_last InOrder before t p
       (each_as (λ u. is_disordered t.parent t.role u ≡ false) (λ u. InOrder u t) before (in_order t)
@@ -155,7 +145,7 @@ module _ (c : Code) (spent : ℕ) (all : List KeptTask) where
   frames_few before frames (t ∷ ts) a e low =
       let sum = frames_last before t in
       let few = a.0.few in
-      subst (λ us. frames_in us ≤ suc spent) (once_more before t ts)
+      subst (λ us. frames_in us ≤ suc spent) (rejoin before t ts)
       (frames_few (before ++ t ∷ []) (frames + length t.frames) ts a.1 (omega arith) (omega arith))
 
   -- ---- arms
@@ -166,15 +156,15 @@ module _ (c : Code) (spent : ℕ) (all : List KeptTask) where
         (root : Option ℕ) (frames : List KeptFrame) (rest : KeptRest) → child_breaks all parent role ≡ false →
         is_arm_of at place (record { parent = parent; role = role; root = root; frames = frames; rest = rest }) ≡ false
     no_arm at place t there other None role root frames rest e = refl
-    no_arm at place t there other (Some q) Root root frames rest e = and_false (eqb at q)
-    no_arm at place t there other (Some q) (Behind d) root frames rest e = and_false (eqb at q)
+    no_arm at place t there other (Some q) Root root frames rest e = and-false (eqb at q)
+    no_arm at place t there other (Some q) (Behind d) root frames rest e = and-false (eqb at q)
     no_arm at place t there other (Some q) (Arm p) root frames rest e = two (eqb at q) refl
       where
         two : (b : Bool) → eqb at q ≡ b → (b && eqb p place) ≡ false
         two true f =
             (let same : at ≡ q = eqb-true at q f in
             let here : slice_get all q ≡ Some t = subst (λ n. slice_get all n ≡ Some t) same there in
-            let group_is : is_group (slice_get all q) ≡ true = not_true (is_group (slice_get all q)) e in
+            let group_is : is_group (slice_get all q) ≡ true = not-false (is_group (slice_get all q)) e in
             absurd (cc (here, group_is, other)))
         two false f = refl
 
@@ -184,8 +174,8 @@ module _ (c : Code) (spent : ℕ) (all : List KeptTask) where
         is_beyond at n (record { parent = parent; role = role; root = root; frames = frames; rest = rest }) ≡ false →
         is_arm_of at place (record { parent = parent; role = role; root = root; frames = frames; rest = rest }) ≡ false
     not_beyond at n place low None role root frames rest e = refl
-    not_beyond at n place low (Some q) Root root frames rest e = and_false (eqb at q)
-    not_beyond at n place low (Some q) (Behind d) root frames rest e = and_false (eqb at q)
+    not_beyond at n place low (Some q) Root root frames rest e = and-false (eqb at q)
+    not_beyond at n place low (Some q) (Behind d) root frames rest e = and-false (eqb at q)
     not_beyond at n place low (Some q) (Arm p) root frames rest e = two (eqb at q) refl
       where
         three : (b : Bool) → eqb p place ≡ b → leb n p ≡ false → b ≡ false
@@ -193,7 +183,7 @@ module _ (c : Code) (spent : ℕ) (all : List KeptTask) where
         three false f g = refl
 
         two : (b : Bool) → eqb at q ≡ b → (b && eqb p place) ≡ false
-        two true f = three (eqb p place) refl (second_false (eqb at q) (leb n p) e f)
+        two true f = three (eqb p place) refl (not_second (eqb at q) (leb n p) e f)
         two false f = refl
 
     arms_each : (at first i : ℕ) (arms : List (Option Val)) → arms_break all at first arms ≡ false → i < length arms →
@@ -203,7 +193,7 @@ module _ (c : Code) (spent : ℕ) (all : List KeptTask) where
         let p = or_parts (not (eqb (count (is_arm_of at first) all) (unfinished (Some arm)))) (arms_break all at (suc first) arms) e in
         let same : first + 0 ≡ first = omega arith in
         ap (λ n. count (is_arm_of at n) all) same ∙
-        eqb-true _ _ (not_true (eqb (count (is_arm_of at first) all) (unfinished (Some arm))) p.0)
+        eqb-true _ _ (not-false (eqb (count (is_arm_of at first) all) (unfinished (Some arm))) p.0)
     arms_each at first (suc i) (arm ∷ arms) e low =
         let p = or_parts (not (eqb (count (is_arm_of at first) all) (unfinished (Some arm)))) (arms_break all at (suc first) arms) e in
         let same : first + suc i ≡ suc first + i = omega arith in
@@ -242,8 +232,8 @@ module _ (c : Code) (spent : ℕ) (all : List KeptTask) where
     all_arms_run before frames [] e a = tt
     all_arms_run before frames (t ∷ ts) e a = (
       arms_run (length before) t t.rest (subst (λ us. slice_get us (length before) ≡ Some t) (sym e) (at_place before t ts)) refl a.0.rest,
-      subst (λ n. EachAt (ArmsRun all) n ts) (one_behind before t)
-          (all_arms_run (before ++ t ∷ []) (frames + length t.frames) ts (e ∙ sym (once_more before t ts)) a.1),
+      subst (λ n. EachAt (ArmsRun all) n ts) (length_more before t)
+          (all_arms_run (before ++ t ∷ []) (frames + length t.frames) ts (e ∙ sym (rejoin before t ts)) a.1),
     )
 
   -- ---- groups
@@ -253,7 +243,7 @@ module _ (c : Code) (spent : ℕ) (all : List KeptTask) where
       let n = count is_running arms in
       let q = or_parts (eqb n 0) (not (eqb k 0 || eqb n (length arms))) e in (
         some n q.0,
-        either (eqb k 0) (eqb n (length arms)) refl refl (not_true (eqb k 0 || eqb n (length arms)) q.1),
+        either (eqb k 0) (eqb n (length arms)) refl refl (not-false (eqb k 0 || eqb n (length arms)) q.1),
       )
     where
       some : (n : ℕ) → eqb n 0 ≡ false → 1 ≤ n

@@ -14,6 +14,7 @@ use Rattle.verse_value.specs.Store.{Cell, Store}
 use Rattle.verse_meaning_state.specs.State.{Given}
 use Rattle.verse_meaning_state.specs.Waits.{Cause, till, never, done, heard}
 use Rattle.verse_base.specs.declared.limits.TheConstants.{MOST_STEPS, MOST_NOW}
+use Rattle.verse_image.proofs.TableLaws.{bytes_drop}
 use Rattle.run_save_shots.specs.Lists.{Each}
 use Rattle.run_save_shots.specs.Kept.{KeptRest, leaf, group, KeptTask, Kept}
 use Rattle.run_save_shots.specs.Fitting.{CauseFits, Fits, RestFits, Stand, TaskFits, stand_at, task_stand, top_place}
@@ -26,7 +27,7 @@ use Rattle.run_save_format.specs.Whole.{behind_word, broken, broken_cell, broken
 use Rattle.run_save_format.specs.Whole.{or_else, run_at, start_at, whole}
 use Rattle.run_save_reads.specs.Reads.{ReadRunFits}
 use Rattle.run_save_reads.proofs.Meeting.{Meets, meets_then, meets_if, meets_else, meets_is, meets_of, And, Reads}
-use Rattle.run_save_reads.proofs.Meeting.{Steps, drop_bytes, reads_each}
+use Rattle.run_save_reads.proofs.Meeting.{Steps, reads_each}
 use Rattle.run_save_reads.proofs.Meeting.{reads_in, reads_wide}
 use Rattle.run_save_reads.proofs.Stores.{NotedRead, SpawnedRead, StoreRead, reads_cells, reads_noted, reads_spawned, steps_noted}
 use Rattle.run_save_reads.proofs.Tasks.{RestFound, TaskRead, reads_task, waits_apart}
@@ -70,7 +71,7 @@ reads_code bytes b =
     (coded (length n.1) (take n.0 n.1) (image_at (take n.0 n.1)) >>= λ code. Ok (code, drop n.0 n.1))
     (λ f. meets_then Valid (And Valid) (coded (length n.1) (take n.0 n.1) (image_at (take n.0 n.1))) (λ code. Ok (code, drop n.0 n.1))
     (code_valid (length n.1) (take n.0 n.1) (image_at (take n.0 n.1)) (take_bytes n.0 n.1 p.1) refl)
-    (λ code q. (q, drop_bytes n.0 n.1 p.1))))
+    (λ code q. (q, bytes_drop n.0 n.1 p.1))))
 
 -- ---- the numbers
 

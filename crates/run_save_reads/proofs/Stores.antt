@@ -1,7 +1,8 @@
 -- Cells and spawned entries that are read.
 use Rattle.std.proofs.Common.{◌≡◌, ℕ, zero, suc, ◌+◌, ◌<◌, ◌≤◌, Bool, true, false, cond, eqb, List, [], ◌∷◌, ◌++◌}
 use Rattle.std.proofs.Common.{length, Option, Some, None}
-use Rattle.std.proofs.Common.{slice_get, Result, Ok, Err, refl, sym, ap, subst, ◌∙◌, arith, length-append}
+use Rattle.std.proofs.Common.{slice_get, Result, Ok, Err, refl, sym, ap, subst, ◌∙◌, arith}
+use Rattle.verse_base.proofs.Facts.{length_more}
 use Rattle.verse_image.specs.declared.faults.Flaw.{Flaw}
 use Rattle.verse_image.specs.Numbers.{IsBytes}
 use Rattle.verse_image.specs.Reading.{◌>>=◌, Reader, flaw}
@@ -25,7 +26,8 @@ use Rattle.run_save_format.specs.Whole.{name_none, names_none}
 use Rattle.run_save_format.specs.Reading.{at_most, cell_at, cell_forms, cells_at, entry_at, free_value_at}
 use Rattle.run_save_format.specs.Reading.{free_values_at, given_at, kind_at}
 use Rattle.run_save_format.specs.Reading.{kind_form_at, maybe_at, noted_at, object_of, spawned_at}
-use Rattle.run_save_reads.proofs.Meeting.{Meets, meets_then, meets_as, And, Reads, ReadsFrom, Steps, IfThere}
+use Rattle.run_save_format.proofs.Lefts.{IfThere}
+use Rattle.run_save_reads.proofs.Meeting.{Meets, meets_then, meets_as, And, Reads, ReadsFrom, Steps}
 use Rattle.run_save_reads.proofs.Meeting.{reads_choice, reads_each, reads_flag}
 use Rattle.run_save_reads.proofs.Meeting.{reads_in, reads_small, reads_wide}
 use Rattle.run_save_reads.proofs.Values.{More, Within, WholeRead, meets_weighed, reads_all, reads_whole}
@@ -35,15 +37,12 @@ use Rattle.run_save_reads.proofs.Values.{More, Within, WholeRead, meets_weighed,
 abbrev pub NotedRead : {A S : Type 0} → (S → A → S → Type 0) → S × List ℕ → A → S × List ℕ → Type 0
 NotedRead One s x t = One s.0 x t.0 × (length t.1 ≡ suc (length s.1))
 
-one_longer : (lefts : List ℕ) (left : ℕ) → length (lefts ++ left ∷ []) ≡ suc (length lefts)
-one_longer lefts left = omega (arith, length-append lefts (left ∷ []))
-
 pub reads_noted : {A S : Type 0} (One : S → A → S → Type 0) (one : S → Reader (A × S)) → ((s : S) → ReadsFrom One s (one s)) →
     (s : S × List ℕ) → ReadsFrom (NotedRead One) s (noted_at one s)
 unfolding noted_at
 reads_noted One one h s bytes b =
     meets_then (And (λ x. One s.0 x.0 x.1)) (And (λ x. NotedRead One s x.0 x.1)) (one s.0 bytes)
-    (λ x. Ok ((x.0.0, (x.0.1, s.1 ++ length bytes ∷ [])), x.1)) (h s.0 bytes b) (λ x p. ((p.0, one_longer s.1 (length bytes)), p.1))
+    (λ x. Ok ((x.0.0, (x.0.1, s.1 ++ length bytes ∷ [])), x.1)) (h s.0 bytes b) (λ x p. ((p.0, length_more s.1 (length bytes)), p.1))
 
 -- what was read, without what is left, and how often
 pub steps_noted : {A S : Type 0} (One : S → A → S → Type 0) (xs : List A) (s t : S × List ℕ) → Steps (NotedRead One) s xs t →
@@ -242,7 +241,7 @@ reads_entry entries lefts bytes b =
     meets_then (And (IfThere (λ (g : Given). ValueFits entries g.value))) (And (λ x. EntryRead entries lefts x.0 x.1))
     (maybe_at (given_at entries) bytes) (λ g. Ok ((g.0, lefts ++ length bytes ∷ []), g.1))
     (reads_maybe (λ (g : Given). ValueFits entries g.value) (given_at entries) (reads_given entries) bytes b)
-    (λ g p. ((given_fits entries g.0 p.0, one_longer lefts (length bytes)), p.1))
+    (λ g p. ((given_fits entries g.0 p.0, length_more lefts (length bytes)), p.1))
 
 entries_read : (entries : ℕ) (gs : List (Option Given)) (s t : List ℕ) → Steps (EntryRead entries) s gs t →
     Each (GivenFits entries) gs × (length t ≡ length s + length gs)

@@ -18,6 +18,8 @@ use Rattle.verse_value.specs.declared.runs.CellKind.TheVariants as cell
 use Rattle.verse_meaning_state.specs.State.{Given}
 use Rattle.verse_meaning_state.specs.Waits.{Cause, till, never, done, heard, nth}
 use Rattle.verse_base.specs.declared.limits.TheConstants.{MOST_MOMENT}
+use Rattle.verse_base.proofs.Facts.{alone}
+use Rattle.verse_meaning_state.proofs.Numbers.{nth_is}
 use Rattle.run_save_shots.specs.Lists.{Each, EachTwo, AreDistinct}
 use Rattle.run_save_shots.specs.Kept.{KeptFrame, KeptRest, leaf, group, KeptTask}
 use Rattle.run_save_shots.specs.Fitting.{ArmFits, FrameFits, FramesSuit, IsBlock, RestSuits, RootFits, Stand}
@@ -28,19 +30,15 @@ use Rattle.run_save_format.specs.Reading.{Known, cause_form, cause_of, contains,
 use Rattle.run_save_format.specs.Reading.{free_value_at, free_values_at, group_at, is_block, is_call, is_entry}
 use Rattle.run_save_format.specs.Reading.{is_event, is_running, leaf_at}
 use Rattle.run_save_format.specs.Reading.{many_at, maybe_at, may_stand, place_at, rest_at, root_at, standing_at, suspends, task_at, wait_at}
+use Rattle.run_save_format.proofs.Lefts.{IfThere}
 use Rattle.run_save_reads.proofs.Meeting.{Meets, meets_then, meets_if, meets_as, And, Reads, ReadsFrom, Steps, Every}
-use Rattle.run_save_reads.proofs.Meeting.{IfThere, reads_flag, reads_in}
+use Rattle.run_save_reads.proofs.Meeting.{reads_flag, reads_in}
 use Rattle.run_save_reads.proofs.Meeting.{reads_many, reads_optional, reads_small, reads_where, reads_wide}
 use Rattle.run_save_reads.proofs.Stores.{reads_free, reads_free_all, reads_maybe}
 
 each_of : {A : Type 0} (P Q : A → Type 0) (xs : List A) → ((x : A) → P x → Q x) → Every P xs → Each Q xs
 each_of P Q [] h p = tt
 each_of P Q (x ∷ xs) h p = (h x p.0, each_of P Q xs h p.1)
-
-nth_is : {A : Type 0} (xs : List A) (n : ℕ) → nth xs n ≡ slice_get xs n
-nth_is [] n = refl
-nth_is (x ∷ xs) zero = refl
-nth_is (x ∷ xs) (suc n) = nth_is xs n
 
 -- ---- a number of one form
 
@@ -243,18 +241,13 @@ module _ (x : Known) where
   abbrev pub WaitRead : List ℕ → ℕ → Type 0
   WaitRead ws n = (n < x.numbers.next) × (contains n ws ≡ false)
 
-  both : (a b : Bool) → (a && not b) ≡ true → (a ≡ true) × (b ≡ false)
-  both true true e = absurd (cc)
-  both true false e = (refl, refl)
-  both false b e = absurd (cc)
-
   reads_wait : (ws : List ℕ) → Reads (WaitRead ws) (wait_at x ws)
   unfolding wait_at
   reads_wait ws bytes b =
       meets_then (And (λ (n : ℕ). Unit {0})) (And (WaitRead ws)) (wide_at bytes)
       (λ n. cond (ltb n.0 x.numbers.next && not (contains n.0 ws)) (Ok n) (Err (flaw 5 (length bytes)))) (reads_wide bytes b)
       (λ n p. meets_if (And (WaitRead ws)) (ltb n.0 x.numbers.next && not (contains n.0 ws)) (Ok n) (flaw 5 (length bytes))
-      (λ t. (let q = both (ltb n.0 x.numbers.next) (contains n.0 ws) t in ((ltb-true _ _ q.0, q.1), p.1))))
+      (λ t. (let q = alone (ltb n.0 x.numbers.next) (contains n.0 ws) t in ((ltb-true _ _ q.0, q.1), p.1))))
 
   reads_leaf : (s : Stand) (ws : List ℕ) → ReadsFrom (RestRead s) ws (leaf_at x s ws)
   unfolding leaf_at

@@ -1,8 +1,9 @@
 -- What breaks no rule on the whole list fits.
-use Rattle.std.proofs.Common.{◌≡◌, ◌≢◌, ◌⊎◌, inl, inr, ℕ, zero, suc, ◌+◌, ◌<◌, ◌≤◌, Bool, true, false, cond, ltb, leb, eqb, not, ◌&&◌, ◌||◌}
+use Rattle.std.proofs.Common.{◌≡◌, ◌⊎◌, inl, inr, ℕ, suc, ◌+◌, ◌<◌, ◌≤◌, Bool, true, false, cond, ltb, leb, eqb, ◌&&◌, ◌||◌}
 use Rattle.std.proofs.Common.{List, [], ◌∷◌, ◌++◌, length, Option, Some, None, slice_get, refl, sym, ap, subst, ◌∙◌, arith, length-append}
 use Rattle.std.proofs.Common.{append_assoc, append-nil}
-use Rattle.std.proofs.lemmas.Bool.{ltb-false, leb-false, leb-true, eqb-true, eq-eqb, or_parts}
+use Rattle.std.proofs.lemmas.Bool.{ltb-false, leb-false, leb-true, eqb-true, eq-eqb, or_parts, not-false}
+use Rattle.verse_base.proofs.Facts.{cond_none}
 use Rattle.task_tree.specs.declared.tasks.Role.{Role}
 use Rattle.task_tree.specs.declared.tasks.Role.TheVariants.{Root, Arm, Behind}
 use Rattle.task_tree.specs.Tasks.{is_child}
@@ -10,7 +11,6 @@ use Rattle.verse_code.specs.declared.codes.Code.{Code}
 use Rattle.verse_value.specs.Val.{Val, vals}
 use Rattle.verse_value.specs.Store.{Cell, Store}
 use Rattle.verse_meaning_state.specs.State.{Given}
-use Rattle.verse_meaning_state.specs.Waits.{nth}
 use Rattle.run_save_shots.specs.Lists.{Each, EachAt, EachTwo, count}
 use Rattle.run_save_shots.specs.Kept.{KeptRest, leaf, group, KeptTask}
 use Rattle.run_save_shots.specs.Fitting.{ArmsRun, DepthFits, GroupStands, HasRoot, InOrder, MayFollow, ParentBefore}
@@ -18,6 +18,7 @@ use Rattle.run_save_shots.specs.Fitting.{Stand, arms_of, calls, sleeps}
 use Rattle.run_save_shots.specs.Fitting.{stays, awaits_task, awaits_event, gathers, goes_on, frames_in, frames_of}
 use Rattle.run_save_shots.specs.Fitting.{is_arm_of, is_child_of, is_root}
 use Rattle.run_save_shots.specs.Fitting.{is_running, runs_once, task_stand, unfinished, ValueFits, ValuesFit}
+use Rattle.run_save_shots.proofs.Lists.{get_some}
 use Rattle.run_save_format.specs.Whole.{any, arms_break, breaks_cell, breaks_entry, breaks_task, broken_cell, broken_entry, broken_task}
 use Rattle.run_save_format.specs.Whole.{child_breaks, group_breaks, is_beyond, is_disordered, is_group, is_later}
 use Rattle.run_save_format.specs.Whole.{left_at, may_follow, name_none}
@@ -25,29 +26,6 @@ use Rattle.run_save_format.specs.Whole.{names_none, or_else, rest_breaks, role_b
 use Rattle.run_save_reads.proofs.Stores.{SlotRead}
 
 -- ---- words on lists
-
-pub not_true : (b : Bool) → not b ≡ false → b ≡ true
-not_true true e = refl
-not_true false e = absurd (cc)
-
--- where a test of both fails and the first holds
-pub second_false : (a b : Bool) → (a && b) ≡ false → a ≡ true → b ≡ false
-second_false true b e f = e
-second_false false b e f = absurd (cc)
-
-if_nothing : {A : Type 0} (b : Bool) (v : A) (o : Option A) → cond b (Some v) o ≡ None → (b ≡ false) × (o ≡ None)
-if_nothing true v o e = absurd (cc)
-if_nothing false v o e = (refl, e)
-
-pub slice_is : {A : Type 0} (xs : List A) (n : ℕ) → slice_get xs n ≡ nth xs n
-slice_is [] n = refl
-slice_is (x ∷ xs) zero = refl
-slice_is (x ∷ xs) (suc n) = slice_is xs n
-
-there : {A : Type 0} (xs : List A) (n : ℕ) → n < length xs → slice_get xs n ≢ None
-there [] n low e = omega arith
-there (x ∷ xs) zero low e = cc
-there (x ∷ xs) (suc n) low e = there xs n (omega arith) e
 
 pub at_place : {A : Type 0} (before : List A) (x : A) (xs : List A) → slice_get (before ++ x ∷ xs) (length before) ≡ Some x
 at_place [] x xs = refl
@@ -63,7 +41,7 @@ none_counted test (x ∷ xs) e =
 
 left_none : (lefts : List ℕ) (n : ℕ) (o : Option ℕ) → ((p : ℕ) → o ≡ Some p → p < n) → length lefts ≡ n → left_at lefts o ≡ None → o ≡ None
 left_none lefts n None low e f = refl
-left_none lefts n (Some p) low e f = let within = low p refl in absurd (there lefts p (omega arith) f)
+left_none lefts n (Some p) low e f = let within = low p refl in absurd (get_some lefts p (omega arith) f)
 
 pub both_none : (a b : Option ℕ) → or_else a b ≡ None → (a ≡ None) × (b ≡ None)
 both_none None b e = (refl, e)
@@ -128,7 +106,7 @@ pub cells_fit : (n address : ℕ) (cells : Store) → Each (λ (c : Cell). Each 
     Each (λ (c : Cell). ValuesFit n c.slots) cells
 cells_fit n address [] p e = tt
 cells_fit n address (c ∷ cells) p e =
-    let q = if_nothing (breaks_cell n c) address (broken_cell n (suc address) cells) e in
+    let q = cond_none (breaks_cell n c) address (broken_cell n (suc address) cells) e in
     (slots_fit n c.slots p.0 q.0, cells_fit n (suc address) cells p.1 q.1)
 
 -- ---- spawned entries
@@ -137,8 +115,8 @@ pub entries_rooted : (ts : List KeptTask) (entry : ℕ) (gs : List (Option Given
     EachAt (HasRoot ts) entry gs
 entries_rooted ts entry [] e = tt
 entries_rooted ts entry (g ∷ gs) e =
-    let q = if_nothing (breaks_entry ts entry g) entry (broken_entry ts (suc entry) gs) e in
-    (eqb-true _ _ (not_true (eqb (count (is_root (Some entry)) ts) (runs_once g)) q.0), entries_rooted ts (suc entry) gs q.1)
+    let q = cond_none (breaks_entry ts entry g) entry (broken_entry ts (suc entry) gs) e in
+    (eqb-true _ _ (not-false (eqb (count (is_root (Some entry)) ts) (runs_once g)) q.0), entries_rooted ts (suc entry) gs q.1)
 
 -- ---- tasks
 
@@ -176,6 +154,6 @@ pub all_stand : (c : Code) (spent : ℕ) (all before : List KeptTask) (frames : 
     broken_task c spent all before frames ts ≡ None → AllStand c spent all before frames ts
 all_stand c spent all before frames [] e = tt
 all_stand c spent all before frames (t ∷ ts) e =
-    let q = if_nothing (breaks_task c spent all before frames t) (length before)
+    let q = cond_none (breaks_task c spent all before frames t) (length before)
     (broken_task c spent all (before ++ t ∷ []) (frames + length t.frames) ts) e in
     (stands c spent all before frames t q.0, all_stand c spent all (before ++ t ∷ []) (frames + length t.frames) ts q.1)

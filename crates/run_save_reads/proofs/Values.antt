@@ -1,10 +1,11 @@
 -- Values that are read are within their limits and sound, but for what they name while cells are read.
-use Rattle.std.proofs.Common.{◌≡◌, ℕ, zero, suc, ◌+◌, ◌<◌, ◌≤◌, Bool, true, false, cond, ltb, leb, ◌&&◌, ◌||◌, List}
+use Rattle.std.proofs.Common.{◌≡◌, ℕ, zero, suc, ◌+◌, ◌<◌, ◌≤◌, true, false, cond, ltb, leb, ◌&&◌, ◌||◌, List}
 use Rattle.std.proofs.Common.{[], ◌∷◌, ◌++◌, length, drop}
 use Rattle.std.proofs.Common.{take, Option, Some, None, slice_get, Result, Ok, Err, refl, sym, ap, subst, ◌∙◌, arith, eqb}
 use Rattle.std.specs.Prelude.{ℤ, max, option_map, if◌then◌else◌}
 use Rattle.std.proofs.lemmas.Bool.{ltb-true, leb-true, ltb-false, leb-false, le-leb, or_parts}
 use Rattle.std.proofs.lemmas.List.{length-take}
+use Rattle.verse_base.proofs.Facts.{none_of_next, cond_none, none_cond}
 use Rattle.verse_image.specs.declared.faults.Flaw.{Flaw}
 use Rattle.verse_image.specs.Numbers.{IsBytes}
 use Rattle.verse_image.specs.Reading.{◌>>=◌, Reader, flaw, integer_at}
@@ -21,6 +22,8 @@ use Rattle.verse_value.specs.Places.{with_last}
 use Rattle.verse_value.specs.Sizes.{fits, key_weight, weight_of, weights, pair_weights, levels_of, most_levels, most_pair_levels}
 use Rattle.verse_value.specs.contracts.keys.KeyEq.TheImpl.Laws.{laws-law}
 use Rattle.verse_value.specs.declared.sizes.TheConstants.{MOST_WEIGHT, MOST_LEVELS, MOST_STORE_WEIGHT}
+use Rattle.verse_value.proofs.Sums.{last_weights}
+use Rattle.verse_image.proofs.TableLaws.{bytes_drop}
 use Rattle.run_save_shots.specs.Lists.{Each}
 use Rattle.run_save_shots.specs.Fitting.{KeyIsSound, IsSound, AreSound, PairsAreSound, ValueFits}
 use Rattle.run_save_format.specs.declared.forms.KeyForm.{KeyForm}
@@ -39,7 +42,7 @@ use Rattle.run_save_format.specs.Values.{text_key_at, tuple_at}
 use Rattle.run_save_format.specs.Values.{value_at, value_form_at, value_forms, values_at, weighed, wide_at}
 use Rattle.run_save_format.specs.Whole.{names_none, name_none, pairs_name_none}
 use Rattle.run_save_reads.proofs.Meeting.{Meets, meets_then, meets_if, meets_else, meets_as, And, Reads, ReadsFrom}
-use Rattle.run_save_reads.proofs.Meeting.{Steps, drop_bytes, reads_choice}
+use Rattle.run_save_reads.proofs.Meeting.{Steps, reads_choice}
 use Rattle.run_save_reads.proofs.Meeting.{reads_each, reads_flag, reads_in, reads_integer, reads_small, reads_where, reads_wide}
 
 -- ---- weights
@@ -130,7 +133,7 @@ reads_text_key w left s bytes b =
     (λ f. (let low = ltb-false _ _ f in
     let long : n.0 ≡ length (take n.0 n.1) = omega (arith, length-take n.0 n.1) in (
       (more_as w n.0 (length (take n.0 n.1)) s more long q.0, q.1, front_bytes n.0 n.1 p.1),
-      drop_bytes n.0 n.1 p.1,
+      bytes_drop n.0 n.1 p.1,
     )))))
 
 reads_enum_key : (w : Where) (s : Load) → Within w s → Reads (KeyRead w s) (enum_key_at s)
@@ -232,32 +235,20 @@ no_pairs_sound (Cell left) = λ n e. tt
 
 -- ---- a key that is new
 
-if_none : {A : Type 0} (b : Bool) (v : A) (o : Option A) → cond b (Some v) o ≡ None → (b ≡ false) × (o ≡ None)
-if_none true v o e = absurd (cc)
-if_none false v o e = (refl, e)
-
-none_if : {A : Type 0} (b : Bool) (v : A) (o : Option A) → b ≡ false → o ≡ None → cond b (Some v) o ≡ None
-none_if true v o e f = absurd (cc)
-none_if false v o e f = f
-
-unmapped : (o : Option ℕ) → option_map suc o ≡ None → o ≡ None
-unmapped None e = refl
-unmapped (Some n) e = absurd (cc)
-
 absent : (k : Key) (ps : Pairs) → key_place k (keys_in ps) ≡ None → at_key ps k ≡ None
 absent k no_pairs e = refl
-absent k (more_pairs l v ps) e = let g = if_none (key_eq k l) zero (option_map suc (key_place k (keys_in ps))) e in
-    none_if (key_eq k l) v (at_key ps k) g.0 (absent k ps (unmapped (key_place k (keys_in ps)) g.1))
+absent k (more_pairs l v ps) e = let g = cond_none (key_eq k l) zero (option_map suc (key_place k (keys_in ps))) e in
+    none_cond (key_eq k l) v (at_key ps k) g.0 (absent k ps (none_of_next (key_place k (keys_in ps)) g.1))
 
 last_absent : (ps : Pairs) (k : Key) (v : Val) (l : Key) → key_eq l k ≡ false → at_key ps l ≡ None → at_key (with_last ps k v) l ≡ None
-last_absent no_pairs k v l e f = none_if (key_eq l k) v None e refl
-last_absent (more_pairs j x ps) k v l e f = let g = if_none (key_eq l j) x (at_key ps l) f in
-    none_if (key_eq l j) x (at_key (with_last ps k v) l) g.0 (last_absent ps k v l e g.1)
+last_absent no_pairs k v l e f = none_cond (key_eq l k) v None e refl
+last_absent (more_pairs j x ps) k v l e f = let g = cond_none (key_eq l j) x (at_key ps l) f in
+    none_cond (key_eq l j) x (at_key (with_last ps k v) l) g.0 (last_absent ps k v l e g.1)
 
 last_sound : (n : ℕ) (ps : Pairs) (k : Key) (v : Val) → PairsAreSound n ps → KeyIsSound k → IsSound n v → at_key ps k ≡ None →
     PairsAreSound n (with_last ps k v)
 last_sound n no_pairs k v a b c e = (b, c, refl, tt)
-last_sound n (more_pairs l x ps) k v a b c e = let g = if_none (key_eq k l) x (at_key ps k) e in
+last_sound n (more_pairs l x ps) k v a b c e = let g = cond_none (key_eq k l) x (at_key ps k) e in
     (a.0, a.1, last_absent ps k v l (laws-law.symm l k ∙ g.0) a.2, last_sound n ps k v a.3 b c g.1)
 
 last_names : (n : ℕ) (ps : Pairs) (k : Key) (v : Val) → pairs_name_none n (with_last ps k v) ≡ false →
@@ -272,10 +263,6 @@ pair_sound : (w : Where) (ps : Pairs) (k : Key) (v : Val) → PairsSoundIn w ps 
     key_place k (keys_in ps) ≡ None → PairsSoundIn w (with_last ps k v)
 pair_sound (Among entries) ps k v a b c e = last_sound entries ps k v a b c (absent k ps e)
 pair_sound (Cell left) ps k v a b c e = λ n f. (let p = last_names n ps k v f in last_sound n ps k v (a n p.0) b (c n p.1) (absent k ps e))
-
-last_weights : (ps : Pairs) (k : Key) (v : Val) → pair_weights (with_last ps k v) ≡ pair_weights ps + (key_weight k + weight_of v)
-last_weights no_pairs k v = omega arith
-last_weights (more_pairs l x ps) k v = omega (arith, last_weights ps k v)
 
 last_levels : (levels : ℕ) (ps : Pairs) (k : Key) (v : Val) → most_pair_levels ps ≤ levels → levels_of v ≤ levels →
     most_pair_levels (with_last ps k v) ≤ levels

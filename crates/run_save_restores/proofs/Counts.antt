@@ -1,46 +1,20 @@
 -- Words on lists: parts that stand behind others, and how many pass a test.
-use Rattle.std.proofs.Common.{◌≡◌, ◌≢◌, ℕ, zero, suc, ◌+◌, ◌<◌, ◌≤◌, Bool, true, false, cond, ◌&&◌, List, [], ◌∷◌, ◌++◌, length}
-use Rattle.std.proofs.Common.{Some, None, slice_get, refl, ap, subst, ◌∙◌, arith, append_assoc}
+use Rattle.std.proofs.Common.{◌≡◌, ℕ, zero, suc, ◌+◌, ◌≤◌, Bool, true, false, cond, ◌&&◌, List, [], ◌∷◌, ◌++◌, length}
+use Rattle.std.proofs.Common.{Some, slice_get, refl, ap, subst, ◌∙◌, arith}
 use Rattle.std.proofs.lemmas.Bool.{or_from}
-use Rattle.verse_meaning_state.specs.Waits.{nth}
 use Rattle.run_save_shots.specs.Lists.{Each, EachAt, EachTwo, count}
 use Rattle.run_save_shots.specs.Kept.{KeptTask}
 use Rattle.run_save_shots.specs.Fitting.{frames_in}
+use Rattle.run_save_shots.proofs.Lists.{each_middle}
 use Rattle.run_save_format.specs.Whole.{any}
 
 -- ---- places
-
-pub once_more : {A : Type 0} (before : List A) (t : A) (ts : List A) → (before ++ t ∷ []) ++ ts ≡ before ++ t ∷ ts
-once_more before t ts = append_assoc before (t ∷ []) ts
-
-pub slice_is : {A : Type 0} (xs : List A) (n : ℕ) → slice_get xs n ≡ nth xs n
-slice_is [] n = refl
-slice_is (x ∷ xs) zero = refl
-slice_is (x ∷ xs) (suc n) = slice_is xs n
-
-pub no_place : {A : Type 0} (xs : List A) (n : ℕ) → length xs ≤ n → nth xs n ≡ None
-no_place [] n low = refl
-no_place (x ∷ xs) zero low = absurd (omega arith)
-no_place (x ∷ xs) (suc n) low = no_place xs n (omega arith)
-
-pub within : {A : Type 0} (xs : List A) (n : ℕ) → n < length xs → slice_get xs n ≢ None
-within [] n low e = omega arith
-within (x ∷ xs) zero low e = cc
-within (x ∷ xs) (suc n) low e = within xs n (omega arith) e
 
 -- ---- what holds of each element
 
 pub any_none : {A : Type 0} (test : A → Bool) (xs : List A) → Each (λ x. test x ≡ false) xs → any test xs ≡ false
 any_none test [] p = refl
 any_none test (x ∷ xs) p = or_from (test x) (any test xs) p.0 (any_none test xs p.1)
-
-pub each_as : {A : Type 0} (P Q : A → Type 0) (xs : List A) → ((x : A) → P x → Q x) → Each P xs → Each Q xs
-each_as P Q [] h p = tt
-each_as P Q (x ∷ xs) h p = (h x p.0, each_as P Q xs h p.1)
-
-each_middle : {A : Type 0} (P : A → Type 0) (before : List A) (t : A) (ts : List A) → Each P (before ++ t ∷ ts) → P t
-each_middle P [] t ts p = p.0
-each_middle P (x ∷ before) t ts p = each_middle P before t ts p.1
 
 pub each_here : {A : Type 0} (P : A → Type 0) {all : List A} (before : List A) (t : A) (ts : List A) → all ≡ before ++ t ∷ ts →
     Each P all → P t

@@ -56,7 +56,7 @@ word_is_line =
     )
 
 -- a word without a line feed that stands where a line begins is in that line
-word_in_line : (word line file : List ℕ) → IsLine word → behind_word word (line ++ 10 ∷ file) ≡ true → Begins word line
+pub word_in_line : (word line file : List ℕ) → IsLine word → behind_word word (line ++ 10 ∷ file) ≡ true → Begins word line
 word_in_line [] line file p e = (line, refl)
 word_in_line (w ∷ word) [] file p e =
     let k = and_parts (eqb w 10) (behind_word word file) e in absurd (All-head (λ b. b ≢ 10) w word p (eqb-true w 10 k.0))

@@ -1,11 +1,11 @@
 -- What is saved is found: the mark, the code, the numbers, and then all parts.
-use Rattle.std.proofs.Common.{◌≡◌, ℕ, ◌-◌, true, eqb, List, [], ◌∷◌, ◌++◌, length}
+use Rattle.std.proofs.Common.{◌≡◌, ℕ, ◌-◌, true, List, [], ◌∷◌, ◌++◌, length}
 use Rattle.std.proofs.Common.{Ok, refl, ap, ◌∙◌, arith, eq-eqb}
 use Rattle.verse_base.specs.declared.limits.TheConstants.{MOST_TRACE_BYTES}
 use Rattle.verse_image.specs.Format.{◌⨾◌, plain, Image, version_of}
 use Rattle.verse_image.specs.Format as image
-use Rattle.verse_image.specs.Reading.{letter_at, mark_at}
-use Rattle.verse_image.proofs.ImageLaws.{image_again}
+use Rattle.verse_image.specs.Reading.{mark_at}
+use Rattle.verse_image.proofs.ImageLaws.{image_again, mark_again}
 use Rattle.verse_code.specs.declared.codes.Code.{Code}
 use Rattle.verse_base.specs.declared.limits.TheConstants.{MOST_STEPS, MOST_NOW}
 use Rattle.run_save_shots.specs.Fitting.{Fits}
@@ -19,16 +19,8 @@ use Rattle.run_save_restores.proofs.Tasks.{numbers_of, gives_tasks}
 
 -- ---- the mark
 
-letter_is : (letter left : ℕ) (rest : List ℕ) → letter_at letter left (letter ∷ rest) ≡ Ok rest
-unfolding letter_at
-letter_is letter left rest = let same : eqb letter letter ≡ true = eq-eqb letter letter refl in rw same refl
-
-letters_are : (letters : List ℕ) (left : ℕ) (rest : List ℕ) → mark_at letters left (letters ++ rest) ≡ Ok rest
-letters_are [] left rest = refl
-letters_are (letter ∷ letters) left rest = rw (letter_is letter left (letters ++ rest)) (letters_are letters left rest)
-
 gives_mark : (bytes rest : List ℕ) → plain mark bytes rest → mark_at mark (length bytes) bytes ≡ Ok rest
-gives_mark bytes rest h = ap (mark_at mark (length bytes)) h ∙ letters_are mark (length bytes) rest
+gives_mark bytes rest h = ap (mark_at mark (length bytes)) h ∙ mark_again mark (length bytes) rest
 
 -- ---- the code
 

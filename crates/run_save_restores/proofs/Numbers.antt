@@ -11,6 +11,7 @@ use Rattle.run_save_shots.specs.Lists.{Each}
 use Rattle.run_save_format.specs.Format.{wide, optional, maybe}
 use Rattle.run_save_format.specs.Values.{wide_at, number_in, flag_at, small_at, small_where, optional_at, choice_at, each_at}
 use Rattle.run_save_format.specs.Reading.{at_most, many_at, noted_at, maybe_at}
+use Rattle.run_save_format.proofs.Lefts.{IfThere}
 
 -- what the field spells is read
 abbrev pub Gives : {A : Type 0} → Field → Reader A → A → Type 0
@@ -85,10 +86,6 @@ unfolding many_at
 gives_many f one P given [] p bytes rest h = ap (λ w. Ok ([], w)) h
 gives_many f one P given (x ∷ xs) p bytes rest h =
     rw (given x p.0 bytes h.0 h.1, gives_many f one P given xs p.1 h.0 rest h.2) refl
-
-abbrev pub IfThere : {A : Type 0} → (A → Type 0) → Option A → Type 0
-IfThere P None = Unit {0}
-IfThere P (Some x) = P x
 
 pub gives_maybe : {A : Type 0} (f : A → Field) (one : Reader A) (P : A → Type 0) → ((x : A) → P x → Gives (f x) one x) → (o : Option A) →
     IfThere P o → Gives (maybe f o) (maybe_at one) o

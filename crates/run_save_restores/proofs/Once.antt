@@ -1,10 +1,10 @@
 -- A field of a saved run has one spelling in front of the same bytes.
-use Rattle.std.proofs.Common.{◌≡◌, ℕ, ℤ, pos, negsuc, List, [], length, Option, Some, None, sym, subst, ◌∙◌}
+use Rattle.std.proofs.Common.{◌≡◌, ℕ, List, [], length, Option, Some, None, subst}
 use Rattle.task_tree.specs.declared.tasks.Role.{Role}
 use Rattle.task_tree.specs.declared.tasks.Role.TheVariants.{Root, Arm, Behind}
 use Rattle.verse_code.specs.declared.codes.Code.{Code}
-use Rattle.verse_image.specs.Format.{Field, ◌⨾◌, nothing, byte, plain, number, integer, each, flag, version_of}
-use Rattle.verse_image.proofs.NumberLaws.{spelled_once, signed_once}
+use Rattle.verse_image.specs.Format.{Field, ◌⨾◌, byte, plain, number, integer, each, flag, version_of}
+use Rattle.verse_image.proofs.NumberLaws.{spelled_once}
 use Rattle.verse_image.proofs.TableLaws.{Once, once_then, once_number, once_plain, once_each}
 use Rattle.verse_image.proofs.ImageLaws.{image_once}
 use Rattle.verse_value.specs.Val.{Val, unit, falsity, truth, int, char, enum, object, event, task, some, array, mapping, tuple}
@@ -16,22 +16,13 @@ use Rattle.verse_value.specs.declared.runs.CellKind.TheVariants as cell
 use Rattle.verse_value.specs.Store.{Cell}
 use Rattle.verse_meaning_state.specs.State.{Given}
 use Rattle.verse_meaning_state.specs.Waits.{Cause, till, never, done, heard}
+use Rattle.verse_image.proofs.OperationLaws.{once_byte, once_nothing, once_integer}
 use Rattle.run_save_shots.specs.Kept.{KeptFrame, KeptRest, leaf, group, KeptTask, Kept}
 use Rattle.run_save_format.specs.Format.{wide, optional, list, maybe, key_field, value, values, pairs, cell_kind, cell_field, given}
 use Rattle.run_save_format.specs.Format.{standing, frame, cause, rest_field, task_field, mark, imaged, numbers, fields}
 use Rattle.run_save_format.specs.Faults.{OneSaved}
 
 -- ---- numbers and lists
-
-once_nothing : Once nothing
-once_nothing a b rest h k = h ∙ sym k
-
-once_byte : (n : ℕ) → Once (byte n)
-once_byte n a b rest h k = h ∙ sym k
-
-once_integer : (n : ℤ) → Once (integer n)
-once_integer (pos n) a b rest h k = signed_once h.1 k.1
-once_integer (negsuc n) a b rest h k = signed_once h.1 k.1
 
 once_wide : (n : ℕ) → Once (wide n)
 once_wide n a b rest h k = spelled_once h.1 k.1

@@ -18,7 +18,8 @@ use Rattle.run_save_format.specs.declared.weights.Where.TheVariants as place
 use Rattle.run_save_format.specs.Format.{list, maybe, cell_kind, cell_field, given}
 use Rattle.run_save_format.specs.Reading.{cell_at, cell_forms, cells_at, entry_at, given_at, kind_at, kind_form_at}
 use Rattle.run_save_format.specs.Reading.{noted_at, object_of, spawned_at}
-use Rattle.run_save_restores.proofs.Numbers.{Gives, GivesNext, IfThere, Noted, gives_choice, gives_each, gives_in, gives_maybe}
+use Rattle.run_save_format.proofs.Lefts.{IfThere}
+use Rattle.run_save_restores.proofs.Numbers.{Gives, GivesNext, Noted, gives_choice, gives_each, gives_in, gives_maybe}
 use Rattle.run_save_restores.proofs.Numbers.{gives_most, gives_noted, gives_small, gives_wide}
 use Rattle.run_save_restores.proofs.Values.{from_cells, gives_free, gives_slots, weighed_is}
 

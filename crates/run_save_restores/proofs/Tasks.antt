@@ -17,6 +17,7 @@ use Rattle.verse_value.specs.declared.runs.CellKind.TheVariants as cell
 use Rattle.verse_meaning_state.specs.State.{Given}
 use Rattle.verse_meaning_state.specs.Waits.{Cause, till, never, done, heard, nth}
 use Rattle.verse_base.specs.declared.limits.TheConstants.{MOST_MOMENT}
+use Rattle.verse_meaning_state.proofs.Numbers.{nth_is}
 use Rattle.run_save_shots.specs.Lists.{Each, AreDistinct}
 use Rattle.run_save_shots.specs.Kept.{KeptFrame, KeptRest, leaf, group, KeptTask, Kept}
 use Rattle.run_save_shots.specs.Fitting.{ArmFits, CauseFits, FrameFits, FramesSuit, IsBlock, RestFits, RestSuits, RootFits, Stand, TaskFits}
@@ -29,15 +30,11 @@ use Rattle.run_save_format.specs.Reading.{Known, cause_form, cause_of, contains,
 use Rattle.run_save_format.specs.Reading.{free_value_at, group_at, is_block, is_call, is_entry}
 use Rattle.run_save_format.specs.Reading.{is_event, is_running, leaf_at, maybe_at, may_stand, noted_at, place_at, rest_at, root_at}
 use Rattle.run_save_format.specs.Reading.{standing_at, suspends, task_at, tasks_at, wait_at}
-use Rattle.run_save_restores.proofs.Numbers.{Gives, GivesNext, IfThere, Noted, gives_byte, gives_each, gives_flag, gives_in, gives_many}
+use Rattle.run_save_format.proofs.Lefts.{IfThere}
+use Rattle.run_save_restores.proofs.Numbers.{Gives, GivesNext, Noted, gives_byte, gives_each, gives_flag, gives_in, gives_many}
 use Rattle.run_save_restores.proofs.Numbers.{gives_maybe, gives_most, gives_noted, gives_optional, gives_small, gives_where, gives_wide}
 use Rattle.run_save_restores.proofs.Values.{gives_free, gives_frees}
 use Rattle.run_save_restores.proofs.Stores.{GivesAll}
-
-nth_is : {A : Type 0} (xs : List A) (n : ℕ) → nth xs n ≡ slice_get xs n
-nth_is [] n = refl
-nth_is (x ∷ xs) zero = refl
-nth_is (x ∷ xs) (suc n) = nth_is xs n
 
 -- ---- a number of one form
 

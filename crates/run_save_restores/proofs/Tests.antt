@@ -3,24 +3,23 @@ use Rattle.std.proofs.Common.{◌≡◌, ◌⊎◌, inl, inr, ℕ, suc, ◌+◌,
 use Rattle.std.proofs.Common.{List, [], ◌∷◌, ◌++◌, length, Option, Some, None, slice_get, refl, sym, ap, subst, ◌∙◌, arith, length-append}
 use Rattle.std.proofs.lemmas.Bool.{and_from, and_left, and_right, eq-eqb, eqb-true, le-leb, leb-true, lt-leb, ne_eqb, not_from_true}
 use Rattle.std.proofs.lemmas.Bool.{or_from, or_left, or_right}
+use Rattle.verse_base.proofs.Facts.{not_first}
 use Rattle.task_tree.specs.declared.tasks.Role.{Role}
 use Rattle.task_tree.specs.declared.tasks.Role.TheVariants.{Root, Arm, Behind}
 use Rattle.task_tree.specs.Tasks.{is_child}
 use Rattle.verse_code.specs.declared.codes.Code.{Code}
 use Rattle.verse_value.specs.Val.{Val}
 use Rattle.verse_meaning_state.specs.Waits.{nth}
+use Rattle.verse_meaning_state.proofs.Numbers.{nth_past, slice_is}
 use Rattle.run_save_shots.specs.Lists.{Each, EachAt, count}
 use Rattle.run_save_shots.specs.Kept.{KeptFrame, KeptRest, leaf, group, KeptTask, Kept}
 use Rattle.run_save_shots.specs.Fitting.{ArmsRun, DepthFits, GroupStands, InOrder, MayFollow, ParentBefore, RestFits, Stand, arms_of}
 use Rattle.run_save_shots.specs.Fitting.{calls, sleeps, stays, awaits_task, awaits_event, gathers, goes_on, frames_of, is_arm_of}
 use Rattle.run_save_shots.specs.Fitting.{is_running, task_stand, unfinished}
+use Rattle.run_save_shots.proofs.Lists.{get_some}
 use Rattle.run_save_format.specs.Whole.{any, arms_break, child_breaks, group_breaks, is_beyond, is_disordered, is_group, is_later}
 use Rattle.run_save_format.specs.Whole.{may_follow, rest_breaks}
-use Rattle.run_save_restores.proofs.Counts.{any_none, at_place, each_fails, each_here, no_place, slice_is, within}
-
-first_false : (a b : Bool) → (a && b) ≡ false → b ≡ true → a ≡ false
-first_false true b e f = absurd (cc)
-first_false false b e f = refl
+use Rattle.run_save_restores.proofs.Counts.{any_none, at_place, each_fails, each_here}
 
 -- ---- parents
 
@@ -79,7 +78,7 @@ module _ {all : List KeptTask} (arms_run : EachAt (ArmsRun all) 0 all) (before :
         at_group p place e k None there =
             let low = first p e in
             let long : length all ≡ length before + suc (length ts) = ap length here ∙ length-append before (t ∷ ts) in
-            absurd (within all p (omega arith) there)
+            absurd (get_some all p (omega arith) there)
 
         by : (parent : Option ℕ) (role : Role) → t.parent ≡ parent → t.role ≡ role → child_breaks all parent role ≡ false
         by None role e k = refl
@@ -111,7 +110,7 @@ module _ (at n : ℕ) where
   not_beyond (Some q) (Arm p) root frames rest h = two (leb n p) refl
     where
       two : (b : Bool) → leb n p ≡ b → (eqb at q && b) ≡ false
-      two true e = and_left (eqb at q) true (first_false (eqb at q) (eqb p p) (h p (leb-true n p e)) (eq-eqb p p refl))
+      two true e = and_left (eqb at q) true (not_first (eqb at q) (eqb p p) (h p (leb-true n p e)) (eq-eqb p p refl))
       two false e = and_right (eqb at q) false refl
 
   none_beyond : (xs : List KeptTask) → ((place : ℕ) → n ≤ place → NoneIs xs at place) → Each (λ u. is_beyond at n u ≡ false) xs
@@ -164,7 +163,7 @@ rest_stands c s all at t run fits = by t.rest refl
         each i = let same : 0 + i ≡ i = omega arith in ap (λ n. count (is_arm_of at n) all) same ∙ own i
 
         beyond : (place : ℕ) → length arms ≤ place → NoneIs all at place
-        beyond place low = none_is all at place (own place ∙ ap unfinished (no_place arms place low))
+        beyond place low = none_is all at place (own place ∙ ap unfinished (nth_past arms place low))
 
 -- ---- siblings
 

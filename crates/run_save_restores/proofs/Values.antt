@@ -1,8 +1,9 @@
 -- Values that fit are read.
-use Rattle.std.proofs.Common.{◌≡◌, ℕ, zero, suc, ◌+◌, ◌<◌, ◌≤◌, Bool, true, false, cond, ltb, leb, eqb, List, [], ◌∷◌, length}
+use Rattle.std.proofs.Common.{◌≡◌, ℕ, zero, suc, ◌+◌, ◌<◌, ◌≤◌, Bool, true, false, ltb, leb, eqb, List, [], ◌∷◌, length}
 use Rattle.std.proofs.Common.{Option, Some, None, slice_get, Ok, refl, ap, ◌∙◌, arith}
 use Rattle.std.specs.Prelude.{option_map}
 use Rattle.std.proofs.lemmas.Bool.{lt-ltb, le-ltb, leb-true, eqb-true, and_parts}
+use Rattle.verse_base.proofs.Facts.{none_of_next, cond_none, none_cond}
 use Rattle.verse_image.specs.Format.{◌⨾◌, byte, plain, each, flag}
 use Rattle.verse_image.specs.Reading.{◌>>=◌}
 use Rattle.verse_image.proofs.NumberLaws.{integer_again}
@@ -17,6 +18,7 @@ use Rattle.verse_value.specs.Places.{with_last}
 use Rattle.verse_value.specs.Sizes.{fits, key_weight, weight_of, weights, pair_weights, levels_of, most_levels, most_pair_levels}
 use Rattle.verse_value.specs.contracts.keys.KeyEq.TheImpl.Laws.{laws-law}
 use Rattle.verse_value.specs.declared.sizes.TheConstants.{MOST_WEIGHT, MOST_LEVELS, MOST_STORE_WEIGHT}
+use Rattle.verse_image.proofs.TableLaws.{flag_again}
 use Rattle.run_save_shots.specs.Fitting.{KeyIsSound, IsSound, AreSound, PairsAreSound, ValueFits, ValuesFit}
 use Rattle.run_save_format.specs.declared.forms.KeyForm.TheVariants as of_key
 use Rattle.run_save_format.specs.declared.forms.ValueForm.{ValueForm}
@@ -82,10 +84,6 @@ gives_part forms form x w s low there room bytes rest h =
 
 -- ---- keys
 
-flag_again : (b : Bool) → eqb (flag b) 1 ≡ b
-flag_again false = refl
-flag_again true = refl
-
 flag_small : (b : Bool) → flag b ≤ 1
 flag_small false = omega arith
 flag_small true = omega arith
@@ -138,30 +136,18 @@ abbrev NewIn : (before : Pairs) → Pairs → Type 0
 NewIn before no_pairs = Unit {0}
 NewIn before (more_pairs k v ps) = (key_place k (keys_in before) ≡ None) × NewIn before ps
 
-if_none : {A : Type 0} (b : Bool) (v : A) (o : Option A) → cond b (Some v) o ≡ None → (b ≡ false) × (o ≡ None)
-if_none true v o e = absurd (cc)
-if_none false v o e = (refl, e)
-
-none_if : {A : Type 0} (b : Bool) (v : A) (o : Option A) → b ≡ false → o ≡ None → cond b (Some v) o ≡ None
-none_if true v o e f = absurd (cc)
-none_if false v o e f = f
-
-unmapped : (o : Option ℕ) → option_map suc o ≡ None → o ≡ None
-unmapped None e = refl
-unmapped (Some n) e = absurd (cc)
-
 place_last : (l k : Key) (v : Val) (before : Pairs) → key_eq l k ≡ false → key_place l (keys_in before) ≡ None →
     key_place l (keys_in (with_last before k v)) ≡ None
-place_last l k v no_pairs e f = none_if (key_eq l k) zero None e refl
+place_last l k v no_pairs e f = none_cond (key_eq l k) zero None e refl
 place_last l k v (more_pairs j x ps) e f =
-    let g = if_none (key_eq l j) zero (option_map suc (key_place l (keys_in ps))) f in
-    none_if (key_eq l j) zero (option_map suc (key_place l (keys_in (with_last ps k v)))) g.0
-    (ap (option_map suc) (place_last l k v ps e (unmapped (key_place l (keys_in ps)) g.1)))
+    let g = cond_none (key_eq l j) zero (option_map suc (key_place l (keys_in ps))) f in
+    none_cond (key_eq l j) zero (option_map suc (key_place l (keys_in (with_last ps k v)))) g.0
+    (ap (option_map suc) (place_last l k v ps e (none_of_next (key_place l (keys_in ps)) g.1)))
 
 new_last : (before : Pairs) (k : Key) (v : Val) (ps : Pairs) → NewIn before ps → at_key ps k ≡ None → NewIn (with_last before k v) ps
 new_last before k v no_pairs p e = tt
 new_last before k v (more_pairs l x ps) p e =
-    let g = if_none (key_eq k l) x (at_key ps k) e in
+    let g = cond_none (key_eq k l) x (at_key ps k) e in
     (place_last l k v before (laws-law.symm l k ∙ g.0) p.0, new_last before k v ps p.1 g.1)
 
 all_new : (ps : Pairs) → NewIn no_pairs ps

@@ -1,36 +1,34 @@
 -- What fits breaks no rule on the whole list.
-use Rattle.std.proofs.Common.{◌≡◌, ℕ, suc, ◌+◌, ◌≤◌, Bool, true, false, cond, eqb, ltb, ◌&&◌, ◌||◌, List, [], ◌∷◌, ◌++◌, length, Option}
+use Rattle.std.proofs.Common.{◌≡◌, ℕ, suc, ◌+◌, ◌≤◌, Bool, false, eqb, ltb, ◌&&◌, ◌||◌, List, [], ◌∷◌, ◌++◌, length, Option}
 use Rattle.std.proofs.Common.{Some, None, refl, sym, ap, ◌∙◌, arith}
 use Rattle.std.proofs.lemmas.Bool.{eq-eqb, le-ltb, not_from_true, or_from}
+use Rattle.verse_base.proofs.Facts.{none_cond, rejoin}
 use Rattle.verse_value.specs.Store.{Cell, Store}
 use Rattle.verse_meaning_state.specs.State.{Given}
 use Rattle.run_save_shots.specs.Lists.{Each, EachAt, count}
 use Rattle.run_save_shots.specs.Kept.{KeptTask}
 use Rattle.run_save_shots.specs.Fitting.{ArmsRun, DepthFits, Fits, HasRoot, InOrder, ParentBefore, TaskFits, ValuesFit, frames_in, is_root}
 use Rattle.run_save_shots.specs.Fitting.{runs_once}
+use Rattle.run_save_shots.proofs.Lists.{each_as}
 use Rattle.run_save_format.specs.Reading.{Found}
 use Rattle.run_save_format.specs.Whole.{any, breaks_cell, breaks_entry, breaks_task, broken, broken_cell, broken_entry, broken_task}
 use Rattle.run_save_format.specs.Whole.{child_breaks, is_disordered, is_later, left_at, or_else, rest_breaks}
 use Rattle.run_save_restores.specs.Unbroken.{FitsIsUnbroken}
-use Rattle.run_save_restores.proofs.Counts.{alone, any_none, at_here, each_as, each_here, frames_here, frames_last, once_more, two_here}
+use Rattle.run_save_restores.proofs.Counts.{alone, any_none, at_here, each_here, frames_here, frames_last, two_here}
 use Rattle.run_save_restores.proofs.Names.{slots_name_some}
 use Rattle.run_save_restores.proofs.Tests.{child_stands, is_ordered, not_later, rest_stands}
-
-neither : {A : Type 0} (b : Bool) (v : A) (o : Option A) → b ≡ false → o ≡ None → cond b (Some v) o ≡ None
-neither true v o e f = absurd (cc)
-neither false v o e f = f
 
 pub no_cell_broken : (n address : ℕ) (cells : Store) → Each (λ (x : Cell). ValuesFit n x.slots) cells → broken_cell n address cells ≡ None
 no_cell_broken n address [] p = refl
 no_cell_broken n address (c ∷ cells) p =
-    neither (breaks_cell n c) address (broken_cell n (suc address) cells) (slots_name_some n c.slots p.0)
+    none_cond (breaks_cell n c) address (broken_cell n (suc address) cells) (slots_name_some n c.slots p.0)
     (no_cell_broken n (suc address) cells p.1)
 
 pub no_entry_broken : (ts : List KeptTask) (entry : ℕ) (gs : List (Option Given)) → EachAt (HasRoot ts) entry gs →
     broken_entry ts entry gs ≡ None
 no_entry_broken ts entry [] p = refl
 no_entry_broken ts entry (g ∷ gs) p =
-    neither (breaks_entry ts entry g) entry (broken_entry ts (suc entry) gs)
+    none_cond (breaks_entry ts entry g) entry (broken_entry ts (suc entry) gs)
     (not_from_true (eqb (count (is_root (Some entry)) ts) (runs_once g)) (eq-eqb _ _ p.0)) (no_entry_broken ts (suc entry) gs p.1)
 
 module _ (m : Found) (fits : Fits m.code m.kept) where
@@ -80,11 +78,11 @@ module _ (m : Found) (fits : Fits m.code m.kept) where
       broken_task m.code m.kept.spent m.kept.tasks before frames ts ≡ None
   no_task_broken before [] frames sum here = refl
   no_task_broken before (t ∷ ts) frames sum here =
-      neither (breaks_task m.code m.kept.spent m.kept.tasks before frames t) (length before)
+      none_cond (breaks_task m.code m.kept.spent m.kept.tasks before frames t) (length before)
       (broken_task m.code m.kept.spent m.kept.tasks (before ++ t ∷ []) (frames + length t.frames) ts)
       (ap (λ n. breaks_task m.code m.kept.spent m.kept.tasks before n t) sum ∙ task_stands before t ts here)
       (no_task_broken (before ++ t ∷ []) ts (frames + length t.frames)
-      (ap (λ n. n + length t.frames) sum ∙ sym (frames_last before t)) (here ∙ sym (once_more before t ts)))
+      (ap (λ n. n + length t.frames) sum ∙ sym (frames_last before t)) (here ∙ sym (rejoin before t ts)))
 
   pub is_unbroken : broken m ≡ None
   is_unbroken =

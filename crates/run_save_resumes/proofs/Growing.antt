@@ -4,18 +4,15 @@ use Rattle.verse_code_machine.specs.Tasks.{Role, root, part, Task, same_path}
 use Rattle.verse_code_machine.specs.Runs.{Forest}
 use Rattle.run_save_shots.specs.Lists.{Each}
 use Rattle.run_save_shots.specs.Spelling.{before_parent, planted, grown}
+use Rattle.run_save_shots.proofs.Lists.{each_cond}
 use Rattle.run_save_resumes.proofs.Adding.{one, tasks_sum, trees_sum, is_named, tasks_join, one_tree}
 
 -- ---- what holds of each
 
 module _ (P : Task → Type 0) where
-  cond_each : (b : Bool) (xs ys : List Task) → Each P xs → Each P ys → Each P (cond b xs ys)
-  cond_each true xs ys a b = a
-  cond_each false xs ys a b = b
-
   before_each : (y : Task) (ts : List Task) → P y → Each P ts → Each P (before_parent y ts)
   before_each y [] a b = tt
-  before_each y (x ∷ xs) a b = cond_each (same_path y.thread.who.up x.thread.who.path) (y ∷ x ∷ xs) (x ∷ before_parent y xs) (a, b) (
+  before_each y (x ∷ xs) a b = each_cond P (same_path y.thread.who.up x.thread.who.path) (y ∷ x ∷ xs) (x ∷ before_parent y xs) (a, b) (
     b.0,
     before_each y xs a b.1,
   )

@@ -2,8 +2,10 @@
 use Rattle.std.proofs.Common.{◌≡◌, ℕ, zero, suc, ◌+◌, ◌*◌, ◌≤◌, length, List, [], ◌∷◌, ◌++◌, Option, Some, None, Bool, true, false, cond}
 use Rattle.std.proofs.Common.{refl}
 use Rattle.std.proofs.Common.{subst, ap, ◌∙◌, arith}
+use Rattle.verse_base.proofs.Facts.{clash}
 use Rattle.verse_code.specs.declared.codes.Code.{Code}
 use Rattle.verse_meaning_state.specs.Waits.{eqn, ltn}
+use Rattle.verse_meaning_state.proofs.Numbers.{eqn_same}
 use Rattle.verse_code_machine.specs.Tasks.{Frame, Who, same_path}
 use Rattle.run_save_shots.specs.Kept.{KeptTask, Kept}
 use Rattle.run_save_shots.specs.Naming.{number_at, named, parent_in}
@@ -30,14 +32,6 @@ named_last None entry n = refl
 named_last (Some w) entry n = last_end w.path n
 
 -- ---- numbers
-
-eqn_same : (n : ℕ) → eqn n n ≡ true
-eqn_same zero = refl
-eqn_same (suc n) = eqn_same n
-
-clash : {A : Type 0} (b : Bool) → b ≡ true → b ≡ false → A
-clash true e f = cc
-clash false e f = cc
 
 same_last : (p q : List ℕ) → same_path p q ≡ true → last p ≡ last q
 same_last p q e = ap last (same_is p q e)

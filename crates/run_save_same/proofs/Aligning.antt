@@ -5,6 +5,7 @@ use Rattle.std.proofs.Common.{refl, sym, subst, ap, ◌∙◌, arith}
 use Rattle.std.specs.Prelude.{◌&&◌}
 use mathlib.Core.Logic.{inl, inr}
 use Rattle.std.proofs.lemmas.Bool.Decides.{nat_tests}
+use Rattle.std.proofs.lemmas.List.{length-map}
 use Rattle.task_tree.specs.Tasks.{is_child}
 use Rattle.task_tree.specs.declared.tasks.Role.{Role}
 use Rattle.task_tree.specs.declared.tasks.Role.TheVariants.{Root, Arm, Behind}
@@ -17,7 +18,6 @@ use Rattle.run_save_shots.specs.Fitting.{is_child_of}
 use Rattle.run_save_shots.specs.Keeping as kp
 use Rattle.run_save_shots.specs.Naming.{number_at, is_since, is_begun_since}
 use Rattle.run_save_shots.specs.Spelling as sp
-use Rattle.run_save_fits.proofs.KeptTasks.{map_length}
 use Rattle.run_save_kept.specs.Orders.{last}
 use Rattle.run_save_births.specs.Births.{births, Rising}
 use Rattle.run_save_orders.specs.Roots.{AreApart}
@@ -61,7 +61,7 @@ from_map f p (a ∷ xs) = by_test (p (f a)) (from_map f p xs)
   where
     by_test : (b : Bool) → length (from p (map f xs)) ≡ length (from (λ a. p (f a)) xs) →
         length (cond b (f a ∷ map f xs) (from p (map f xs))) ≡ length (cond b (a ∷ xs) (from (λ a. p (f a)) xs))
-    by_test true h = ap suc (map_length f xs)
+    by_test true h = ap suc (length-map xs f)
     by_test false h = h
 
 -- ---- numbers

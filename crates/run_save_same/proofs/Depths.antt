@@ -5,15 +5,15 @@ use Rattle.std.proofs.Common.{subst, ap, ◌∙◌, arith, option_map, ◌⊎◌
 use Rattle.std.specs.Prelude.{pred, ◌&&◌, eqb, ◌≢◌}
 use mathlib.Core.Logic.{inl, inr}
 use Rattle.std.proofs.lemmas.Bool.Decides.{nat_tests, eqb_tells}
+use Rattle.verse_base.proofs.Facts.{clash, nat_le_is}
 use Rattle.task_tree.specs.Tasks.{is_child}
 use Rattle.verse_meaning_state.specs.Waits.{ltn, eqn}
+use Rattle.verse_meaning_state.proofs.Numbers.{eqn_is, ltn_is_not, ltn_is}
 use Rattle.verse_code_machine.specs.Tasks.{Frame, Part, did, runs, Rest, asleep, group, Task}
-use Rattle.verse_code_machine_parents.proofs.Lists.{eqn_is}
 use Rattle.run_save_shots.specs.Lists.{Each, count}
 use Rattle.run_save_shots.specs.Keeping as kp
 use Rattle.run_save_shots.specs.Keeping.{place_of, task_of, arm_of, arm_in, depth_of, arm_or, role_in}
 use Rattle.run_save_shots.specs.Naming.{is_since, is_begun_since}
-use Rattle.run_save_kept.proofs.Paths.{clash, ltn_is, ltn_no}
 use Rattle.run_save_births.specs.Births.{births, Rising}
 use Rattle.run_save_groups.specs.Arms.{ArmsBelow, RestBelow}
 
@@ -40,7 +40,7 @@ all_before n bound (f ∷ fs) r h =
     by_test : (b : Bool) → ltn n f.life.born ≡ b → before n fs ≡ length fs →
         cond b (suc (before n fs)) (before n fs) ≡ suc (length fs)
     by_test true e g = ap suc g
-    by_test false e g = absurd (no n bound f.life.born h r.0 (ltn_no n f.life.born e))
+    by_test false e g = absurd (no n bound f.life.born h r.0 (ltn_is_not n f.life.born e))
 
 few : (n : ℕ) (fs : List Frame) → before n fs ≤ length fs
 few n [] = omega arith
@@ -94,7 +94,7 @@ tells n bound (f ∷ fs) r = by_test (ltn n f.life.born) refl (tells n (suc f.li
           all_tell n (suc f.life.born) (suc (before n fs)) fs r.1 (next n f.life.born h)
               (within (before n fs) (length fs) all),
         )
-    by_test false e g = (((λ i. no_both n f.life.born i (ltn_no n f.life.born e)), (λ i. few n fs)), g)
+    by_test false e g = (((λ i. no_both n f.life.born i (ltn_is_not n f.life.born e)), (λ i. few n fs)), g)
 
 -- ---- an arm
 
@@ -121,9 +121,6 @@ arm_in_below born n (asleep w) i a e = absurd (cc)
 arm_in_below born n (group k p gs) i a e = arm_below born n gs i a e
 
 -- ---- each frame above the lowest
-
-less_is : (i j : ℕ) → nat_le i j ≡ true → i ≤ j
-less_is i j e = grind (arith, nat_tests, e)
 
 more_is : (i j : ℕ) → nat_le i j ≡ false → j < i
 more_is i j e = grind (arith, nat_tests, e)
@@ -169,7 +166,7 @@ behind_tested n all [] a o h = tt
 behind_tested n all (f ∷ []) a o h = h
 behind_tested n all (f ∷ g ∷ fs) a o h = (
   (
-    (λ e. by_order (order n f.life.born) (λ i. yes all (length fs) (less_is (suc (length fs)) (pred all) e) (a.0.1 i))),
+    (λ e. by_order (order n f.life.born) (λ i. yes all (length fs) (nat_le_is (suc (length fs)) (pred all) e) (a.0.1 i))),
     (λ e. above n f.life.born o.0 (λ i. no all (length fs) (more_is (suc (length fs)) (pred all) e) (a.0.0 i))),
   ),
   behind_tested n all (g ∷ fs) a.1 o.1 h,

@@ -14,7 +14,8 @@ use Rattle.run_save_shots.specs.Fitting.{gathers, stand_at, task_stand, top_plac
 use Rattle.run_save_shots.specs.Keeping as kp
 use Rattle.run_save_shots.specs.Spelling as sp
 use Rattle.run_save_shots.specs.Spelling.{frames_from, parts_from, with_frames, who, gathered, or_nowhere}
-use Rattle.run_save_fits.proofs.KeptTasks.{each_reverse}
+use Rattle.run_save_shots.proofs.Steps.{top_is}
+use Rattle.run_save_fits.proofs.KeptTasks.{each_reverse, less, none_more}
 use Rattle.run_save_moves.specs.Fine.{Scene}
 use Rattle.run_save_moves.specs.Moves.{BehindCall}
 use Rattle.run_save_fits.specs.Held.{LowerStill, RestFine, TaskFine}
@@ -62,9 +63,6 @@ place_again place p arms e = ap (λ i. suc (pred i) + arms) (minus place p arms 
     minus : (place p arms : ℕ) → place ≡ suc p + arms → place - arms ≡ suc p
     minus place p arms e = omega (arith, e)
 
-bare : (place p : ℕ) → place ≡ suc p → place ≡ suc p + 0
-bare place p e = omega (arith, e)
-
 frame_again : (birth arms p : ℕ) (f : Frame) → Rested f → f.place ≡ suc p + arms → FrameAlike f (sp.frame birth arms (kp.frame arms f))
 frame_again birth arms p f a e = record {
   defers = sym (reverse-reverse f.life.defers);
@@ -99,7 +97,7 @@ module _ (c : Code) (s : Kept) (at : ℕ) (t : KeptTask) (ts : List KeptTask) wh
     subst (λ n. FrameAlike f (sp.frame (sp.born s at depth (t ∷ ts) (suc (length (map (kp.frame 0) fs ++ top ∷ []))) ts) n (kp.frame 0 f)))
         (sym
         (more_behind (map (kp.frame 0) fs) top (arms_of t.rest)))
-        (frame_again _ 0 a.0.behind.0 f a.0.rested (bare f.place a.0.behind.0 a.0.behind.1)),
+        (frame_again _ 0 a.0.behind.0 f a.0.rested (none_more f.place a.0.behind.0 a.0.behind.1)),
     b,
   )
 
@@ -107,11 +105,6 @@ module _ (c : Code) (s : Kept) (at : ℕ) (t : KeptTask) (ts : List KeptTask) wh
   parts_again place [] = tt
   parts_again place (did v ∷ gs) = (refl, parts_again (suc place) gs)
   parts_again place (runs n ∷ gs) = (tt, parts_again (suc place) gs)
-
-top_is : (xs : List KeptFrame) (f : KeptFrame) → top_place (xs ++ f ∷ []) ≡ f.place
-top_is [] f = refl
-top_is (x ∷ []) f = refl
-top_is (x ∷ y ∷ xs) f = top_is (y ∷ xs) f
 
 arms_number : (q : Rest) → length (arms_of (kp.rest q)) ≡ kp.arms_behind q
 arms_number (asleep w) = refl
@@ -123,14 +116,8 @@ arms_number (group j p gs) = map_length gs
 
 -- where the top frame stands
 top_behind : (c : Code) (z : Scene) (next place : ℕ) (q : Rest) → RestFine c z next place q → (p : ℕ) × (place ≡ suc p + kp.arms_behind q)
-top_behind c z next place (asleep w) a = (a.1.0, bare place a.1.0 a.1.1)
+top_behind c z next place (asleep w) a = (a.1.0, none_more place a.1.0 a.1.1)
 top_behind c z next place (group j p gs) a = (a.0.index, a.0.is_behind)
-
-less : (q p n : ℕ) → q ≡ suc p + n → pred (q - n) ≡ p
-less q p n e = ap pred (minus q p n e)
-  where
-    minus : (q p n : ℕ) → q ≡ suc p + n → q - n ≡ suc p
-    minus q p n e = omega (arith, e)
 
 -- the task that is spelled, with its name
 pub record Made (c : Code) (s : Kept) (at : ℕ) (t : KeptTask) (ts : List KeptTask) (ws : List Who) (y : Task) : Type 0 where

@@ -1,17 +1,20 @@
 -- What is known of the tasks that are kept, by their places.
 use Rattle.std.proofs.Common.{◌≡◌, ℕ, zero, suc, ◌+◌, ◌≤◌, ◌<◌, map, List, [], ◌∷◌, ◌++◌, Option, Some, None, Bool}
-use Rattle.std.proofs.Common.{true, false, cond, refl, sym}
-use Rattle.std.proofs.Common.{subst, ap, ◌∙◌, arith, ◌⊎◌, option_map}
-use Rattle.std.specs.Prelude.{◌&&◌, ◌==◌, ◌≢◌, eqb}
+use Rattle.std.proofs.Common.{true, false, refl, sym}
+use Rattle.std.proofs.Common.{subst, ap, ◌∙◌, arith, ◌⊎◌}
+use Rattle.std.specs.Prelude.{◌==◌, ◌≢◌, eqb}
 use mathlib.Core.Logic.{inl, inr}
 use Rattle.std.proofs.lemmas.Bool.Decides.{eqb_tells}
+use Rattle.std.proofs.lemmas.Bool.{and_parts}
+use Rattle.std.proofs.lemmas.Option.{same_Some}
+use Rattle.verse_base.proofs.Facts.{clash}
 use Rattle.task_tree.specs.Tasks.{is_child}
-use Rattle.verse_meaning_state.specs.Waits.{nth, eqn}
-use Rattle.verse_code_machine.specs.Tasks.{Frame, root, part, Role, Who, Part, did, runs, Task, same_path}
+use Rattle.verse_meaning_state.specs.Waits.{nth}
+use Rattle.verse_code_machine.specs.Tasks.{Frame, root, part, Role, Who, Part, runs, Task, same_path}
 use Rattle.verse_code_machine.specs.Runs.{Forest}
 use Rattle.verse_code_machine_parents.specs.Parents.{whos, HasParent, here, later, Rooted, rooted_no, rooted_root}
 use Rattle.verse_code_machine_parents.specs.Parents.{rooted_part, Born, Still}
-use Rattle.verse_code_machine_parents.proofs.Lists.{rooted_tail, rooted_number, eqn_is}
+use Rattle.verse_code_machine_parents.proofs.Lists.{rooted_tail, rooted_number}
 use Rattle.run_save_shots.specs.Lists.{Each, EachAt, EachTwo}
 use Rattle.run_save_shots.specs.Kept.{KeptFrame, KeptRest, KeptTask}
 use Rattle.run_save_shots.specs.Fitting.{is_arm_of}
@@ -20,9 +23,9 @@ use Rattle.run_save_shots.specs.Keeping.{place_of, task_of, arm_of, arm_in, dept
 use Rattle.run_save_fits.specs.Held.{IsSome, RoleIs, tasks_sum}
 use Rattle.run_save_fits.proofs.Holding.{role_some}
 use Rattle.run_save_kept.specs.Orders.{last}
-use Rattle.run_save_kept.proofs.Paths.{last_end, clash, is_same}
+use Rattle.run_save_kept.proofs.Paths.{last_end, is_same}
 use Rattle.run_save_kept.proofs.Siblings.{Older, Named, HasOwn}
-use Rattle.run_save_kept.proofs.Arms.{placed}
+use Rattle.run_save_kept.proofs.Arms.{placed, member_at, arm_is}
 use Rattle.run_save_births.specs.Births.{births_of, NoChild, IsBorn}
 use Rattle.run_save_groups.specs.Arms.{TaskIs}
 use Rattle.run_save_same.proofs.Spelled.{unfound}
@@ -32,16 +35,8 @@ use Rattle.run_save_same.proofs.Table.{is_own, Apart}
 
 -- ---- lists
 
-pub some_is : {A : Type 0} {a d : A} → Some a ≡ Some d → a ≡ d
-some_is e = cc
-
 pub none_some : {A B : Type 0} {a : A} → None ≡ Some a → B
 none_some e = cc
-
-pub at_place : (P : Task → Type 0) (xs : List Task) (i : ℕ) (t : Task) → Each P xs → nth xs i ≡ Some t → P t
-at_place P [] i t a e = none_some e
-at_place P (x ∷ xs) zero t a e = subst P (some_is e) a.0
-at_place P (x ∷ xs) (suc i) t a e = at_place P xs i t a.1 e
 
 pub each_of : (P : Task → Type 0) (xs : List Task) → ((k : ℕ) (z : Task) → nth xs k ≡ Some z → P z) → Each P xs
 each_of P [] f = tt
@@ -49,7 +44,7 @@ each_of P (x ∷ xs) f = (f 0 x refl, each_of P xs (λ k z e. f (suc k) z e))
 
 pub weighs : (f : Task → ℕ) (xs : List Task) (i : ℕ) (t : Task) → nth xs i ≡ Some t → f t ≤ tasks_sum f xs
 weighs f [] i t e = none_some e
-weighs f (x ∷ xs) zero t e = let h = ap f (some_is e) in more (f t) (f x) (tasks_sum f xs) h
+weighs f (x ∷ xs) zero t e = let h = ap f (same_Some _ _ e) in more (f t) (f x) (tasks_sum f xs) h
   where
     more : (a b d : ℕ) → b ≡ a → a ≤ b + d
     more a b d e = omega (arith, e)
@@ -62,7 +57,7 @@ pub kept_at : (P : ℕ → KeptTask → Type 0) (f : Task → KeptTask) (n : ℕ
     j ≡ n + i → EachAt P n (map f xs) →
     nth xs i ≡ Some t → P j (f t)
 kept_at P f n [] i j t d a e = none_some e
-kept_at P f n (x ∷ xs) zero j t d a e = subst (λ k. P k (f t)) (same j n d) (subst (λ z. P n (f z)) (some_is e) a.0)
+kept_at P f n (x ∷ xs) zero j t d a e = subst (λ k. P k (f t)) (same j n d) (subst (λ z. P n (f z)) (same_Some _ _ e) a.0)
   where
     same : (j n : ℕ) → j ≡ n + 0 → n ≡ j
     same j n e = omega (arith, e)
@@ -119,7 +114,7 @@ lowest_is n g (f ∷ fs) a = lowest_is n f fs a
 
 module _ (ys : List Task) (names : Each Named ys) where
   pub some_path : (i : ℕ) (y : Task) → nth ys i ≡ Some y → IsSome y.thread.who.path
-  some_path i y e = role_some y.thread.who.role y.thread.who (at_place Named ys i y names e)
+  some_path i y e = role_some y.thread.who.role y.thread.who (member_at Named ys i y names e)
 
   -- its parent stands there
   pub record ChildOf (i : ℕ) (y z : Task) : Type 0 where
@@ -127,7 +122,7 @@ module _ (ys : List Task) (names : Each Named ys) where
     pub task : task_of z.thread.who.up ys ≡ Some y
 
   pub child_of : (i : ℕ) (y z : Task) → nth ys i ≡ Some y → place_of z.thread.who.up ys ≡ Some i → ChildOf i y z
-  child_of i y z e p = let h = placed z.thread.who.up ys i p in let same = some_is (sym h.1 ∙ e) in record {
+  child_of i y z e p = let h = placed z.thread.who.up ys i p in let same = same_Some _ _ (sym h.1 ∙ e) in record {
     up = h.2 ∙ ap (λ (t : Task). t.thread.who.path) same;
     task = h.3 ∙ ap Some same;
   }
@@ -227,57 +222,13 @@ module _ (ys : List Task) (names : Each Named ys) where
         child_tested ys i y z p h.task left born.rises
         (births_apart y z (births_of y.thread) away (who_path z.thread.who.role z.thread.who named ∙ ap (λ up.
         up ++ z.thread.who.number ∷ []) h.up) born.apart) arms.1
-        (below (low.1 some) (ap last h.up ∙ (role_last y.thread.who.role y.thread.who (at_place Named
+        (below (low.1 some) (ap last h.up ∙ (role_last y.thread.who.role y.thread.who (member_at Named
         ys i y names e) ∙ sym (lowest_is y.thread.who.number y.thread.frame y.thread.below still.born))))
       where
         below : {n m k : ℕ} → n < m → m ≡ k → n < k
         below l e = omega (arith, l, e)
 
   -- ---- arms
-
-  arm_is : (n : ℕ) (gs : List Part) (i : ℕ) → arm_of n gs ≡ Some i → nth gs i ≡ Some (runs n)
-  arm_is n [] i e = none_some e
-  arm_is n (did v ∷ gs) zero e = zero_not (arm_of n gs) e
-    where
-      zero_not : {A : Type 0} (o : Option ℕ) → option_map suc o ≡ Some 0 → A
-      zero_not None e = none_some e
-      zero_not (Some j) e = absurd (no j (some_is e))
-        where
-          no : (j : ℕ) → suc j ≡ 0 → ⊥
-          no j e = omega (arith, e)
-  arm_is n (did v ∷ gs) (suc i) e = arm_is n gs i (suc_of (arm_of n gs) i e)
-    where
-      suc_of : (o : Option ℕ) (i : ℕ) → option_map suc o ≡ Some (suc i) → o ≡ Some i
-      suc_of None i e = none_some e
-      suc_of (Some j) i e = same j i (some_is e)
-        where
-          same : (j i : ℕ) → suc j ≡ suc i → Some j ≡ Some i
-          same j i e = cc
-  arm_is n (runs j ∷ gs) i e = by_test (eqn n j) refl i e (λ i. arm_is n gs i)
-    where
-      by_test : (b : Bool) → eqn n j ≡ b → (i : ℕ) → cond b (Some 0) (option_map suc (arm_of n gs)) ≡ Some i →
-          ((i : ℕ) → arm_of n gs ≡ Some i → nth gs i ≡ Some (runs n)) → nth (runs j ∷ gs) i ≡ Some (runs n)
-      by_test true f zero g h = ap (λ k. Some (runs k)) (sym (eqn_is n j f))
-      by_test true f (suc i) g h = absurd (no i (some_is g))
-        where
-          no : (i : ℕ) → 0 ≡ suc i → ⊥
-          no i e = omega (arith, e)
-      by_test false f zero g h = zero_not (arm_of n gs) g
-        where
-          zero_not : {A : Type 0} (o : Option ℕ) → option_map suc o ≡ Some 0 → A
-          zero_not None e = none_some e
-          zero_not (Some j) e = absurd (no j (some_is e))
-            where
-              no : (j : ℕ) → suc j ≡ 0 → ⊥
-              no j e = omega (arith, e)
-      by_test false f (suc i) g h = h i (suc_of (arm_of n gs) i g)
-        where
-          suc_of : (o : Option ℕ) (i : ℕ) → option_map suc o ≡ Some (suc i) → o ≡ Some i
-          suc_of None i e = none_some e
-          suc_of (Some j) i e = same j i (some_is e)
-            where
-              same : (j i : ℕ) → suc j ≡ suc i → Some j ≡ Some i
-              same j i e = cc
 
   abbrev matches : Option ℕ → ℕ → Bool
   matches None place = false
@@ -291,18 +242,14 @@ module _ (ys : List Task) (names : Each Named ys) where
       by_case (inl h) = ap Some h.1
       by_case (inr h) = clash (eqb q place) e h.0
 
-  and_both : (b d : Bool) → b && d ≡ true → (b ≡ true) × (d ≡ true)
-  and_both true d e = (refl, e)
-  and_both false d e = absurd (cc)
-
   role_test : (i place : ℕ) (entry q : Option ℕ) (d : ℕ) (fs : List KeptFrame) (rest : KeptRest) →
       is_arm_of i place (record { parent = Some i; role = arm_or q d; root = entry; frames = fs; rest = rest }) ≡
       true → matches q place ≡ true
-  role_test i place entry None d fs rest e = (and_both (is_child (Some i) (Some i)) false e).1
-  role_test i place entry (Some j) d fs rest e = (and_both (is_child (Some i) (Some i)) (j == place) e).1
+  role_test i place entry None d fs rest e = (and_parts (is_child (Some i) (Some i)) false e).1
+  role_test i place entry (Some j) d fs rest e = (and_parts (is_child (Some i) (Some i)) (j == place) e).1
 
   pub arm_its : (i place : ℕ) (z : Task) → is_arm_of i place (kp.task ys z) ≡ true → is_its ys i z ≡ true
-  arm_its i place z e = (and_both (is_its ys i z) _ e).0
+  arm_its i place z e = (and_parts (is_its ys i z) _ e).0
 
   -- it runs at that place of the group
   pub arm_runs : (i place : ℕ) (y z : Task) (gs : List Part) → nth ys i ≡ Some y →

@@ -1,8 +1,9 @@
 -- The trees that are spelled are those that are kept, with other numbers in the same order.
 use Rattle.std.proofs.Common.{◌≡◌, ℕ, zero, suc, ◌+◌, ◌≤◌, ◌<◌, length, map, List, [], ◌∷◌, ◌++◌, Option, Some, None}
 use Rattle.std.proofs.Common.{Bool, true, false, cond, refl, sym, subst, ap, ◌∙◌}
-use Rattle.std.proofs.Common.{arith, option_map, ◌*◌}
+use Rattle.std.proofs.Common.{arith, option_map, ◌*◌, append-nil}
 use mathlib.Core.Logic.{inl, inr}
+use Rattle.std.proofs.lemmas.Option.{same_Some}
 use Rattle.task_tree.specs.Tasks.{is_child}
 use Rattle.verse_code.specs.declared.codes.Code.{Code}
 use Rattle.verse_meaning_state.specs.State.{State}
@@ -28,9 +29,8 @@ use Rattle.run_save_fits.specs.Held.{IsSome, LowerStill, TaskFine, tasks_sum, tr
 use Rattle.run_save_fits.proofs.KeptOrder.{walk_well, parents_fit}
 use Rattle.run_save_kept.specs.Orders.{is_named, awaits, Orderly}
 use Rattle.run_save_kept.specs.Growing.{filled}
-use Rattle.run_save_kept.proofs.Sums.{reordered_each, reordered_sum}
 use Rattle.run_save_kept.proofs.Siblings.{Older, Named, HasOwn, trees_names, walk_each, walk_sum, walk_older}
-use Rattle.run_save_kept.proofs.Arms.{placed, found, arms_fit}
+use Rattle.run_save_kept.proofs.Arms.{placed, found, arms_fit, member_at}
 use Rattle.run_save_kept.proofs.Grown.{trees_again}
 use Rattle.run_save_births.specs.Births.{births, births_of, NoChild, IsBorn}
 use Rattle.run_save_groups.specs.Arms as arms
@@ -46,6 +46,7 @@ use Rattle.run_save_orders.specs.Roots.{AreApart, SameButRoots, TableSorts}
 use Rattle.verse_code_machine.specs.Tasks.{Role, root, part, Who}
 use Rattle.verse_code_machine_parents.specs.Parents.{TreesRooted}
 use Rattle.verse_code_machine_saved.specs.Numbers.{NoneBelow}
+use Rattle.run_save_fits.proofs.KeptAll.{reordered_each, reordered_sum}
 use Rattle.run_save_same.specs.Laws.{Held, SpelledTreesAreTheSame}
 use Rattle.run_save_same.proofs.Sorting.{In, has_in, sorted_in, in_front, in_back, none_below}
 use Rattle.run_save_same.proofs.Spelt.{kept_of, number_of, number_is, Spelt, all_spelt}
@@ -55,7 +56,7 @@ use Rattle.run_save_same.proofs.Aligning.{made_last, number_falls}
 use Rattle.run_save_same.proofs.Table.{is_own, pairs_of, entries, table, table_distinct, names_apart, AllFacts}
 use Rattle.run_save_same.proofs.Table.{entries_ordered, Here, here_at}
 use Rattle.run_save_same.proofs.Table.{child_in, first_in}
-use Rattle.run_save_same.proofs.Known.{some_is, none_some, at_place, each_of, weighs, kept_at, who_path, Low}
+use Rattle.run_save_same.proofs.Known.{none_some, each_of, weighs, kept_at, who_path, Low}
 use Rattle.run_save_same.proofs.Known.{rooted_low, its_place, place_its, no_up}
 use Rattle.run_save_same.proofs.Known.{falls_of, roots_differ, kid_of, arm_its, arm_runs, some_path}
 use Rattle.run_save_same.proofs.Rooted.{lowest_last, still_alike, Matched, Over, trees_rooted_pair}
@@ -67,7 +68,7 @@ pair_at : (P : Task → Task → Type 0) (xs vs : List Task) (i : ℕ) (y u : Ta
 pair_at P [] [] i y u a e f = none_some e
 pair_at P [] (v ∷ vs) i y u a e f = none_some e
 pair_at P (x ∷ xs) [] i y u a e f = none_some f
-pair_at P (x ∷ xs) (v ∷ vs) zero y u a e f = subst (λ t. P t u) (some_is e) (subst (P x) (some_is f) a.0)
+pair_at P (x ∷ xs) (v ∷ vs) zero y u a e f = subst (λ t. P t u) (same_Some _ _ e) (subst (P x) (same_Some _ _ f) a.0)
 pair_at P (x ∷ xs) (v ∷ vs) (suc i) y u a e f = pair_at P xs vs i y u a.1 e f
 
 pairs_as : (P Q : Task → Task → Type 0) → ((y u : Task) → P y u → Q y u) → (xs vs : List Task) → EachPair P xs vs →
@@ -79,10 +80,6 @@ pairs_as P Q f (x ∷ xs) (v ∷ vs) a = (f x v a.0, pairs_as P Q f xs vs a.1)
 
 -- ---- paths
 
-app_none : (a : List ℕ) → a ++ [] ≡ a
-app_none [] = refl
-app_none (b ∷ a) = ap (λ y. b ∷ y) (app_none a)
-
 app_more : (a : List ℕ) (n : ℕ) (x : List ℕ) → a ++ n ∷ x ≡ (a ++ n ∷ []) ++ x
 app_more [] n x = refl
 app_more (b ∷ a) n x = ap (λ y. b ∷ y) (app_more a n x)
@@ -92,7 +89,7 @@ module _ (f : List ℕ → Pairs) (first : List ℕ → List ℕ) where
   paths_end : (a b x y : List ℕ) (n m : ℕ) → PathsPaired f first a b x y → IsPair f first (a ++ x) (b ++ y) n m →
       PathsPaired f first a b (x ++ n ∷ []) (y ++ m ∷ [])
   paths_end a b [] [] n m h p = (
-    subst (λ c. IsPair f first c b n m) (app_none a) (subst (λ d. IsPair f first (a ++ []) d n m) (app_none b) p),
+    subst (λ c. IsPair f first c b n m) (append-nil a) (subst (λ d. IsPair f first (a ++ []) d n m) (append-nil b) p),
     tt,
   )
   paths_end a b [] (j ∷ y) n m h p = absurd h
@@ -131,7 +128,7 @@ module _ (f : List ℕ → Pairs) (first : List ℕ → List ℕ) where
 
 -- ---- the arms of a group
 
-bare_frames : (c : Code) (n : ℕ) (fs : List Frame) → Each (LowerStill c n) fs → Each (λ (g : Frame). g.handlers ≡ []) fs
+pub bare_frames : (c : Code) (n : ℕ) (fs : List Frame) → Each (LowerStill c n) fs → Each (λ (g : Frame). g.handlers ≡ []) fs
 bare_frames c n [] a = tt
 bare_frames c n (f ∷ fs) a = (a.0.0.handlers, bare_frames c n fs a.1)
 
@@ -282,7 +279,7 @@ module _ (c : Code) (steps until : ℕ) (s : State) (tss ordered : Forest) (o : 
   away : (path : List ℕ) (n : ℕ) (j : ℕ) (z : Task) → nth ys j ≡ Some z → NoChild tss path n →
       z.thread.who.path ≡ path ++ n ∷ [] → ⊥
   away path n j z e a =
-      at_place (λ (t : Task). t.thread.who.path ≡ path ++ n ∷ [] → ⊥) ys j z
+      member_at (λ (t : Task). t.thread.who.path ≡ path ++ n ∷ [] → ⊥) ys j z
       (walk_each (λ (t : Task). t.thread.who.path ≡ path ++ n ∷ []
       → ⊥) ordered (reordered_each (λ ts. Each (λ (t : Task). t.thread.who.path ≡ path ++ n ∷ [] → ⊥) ts) o a)) e
 
@@ -303,18 +300,18 @@ module _ (c : Code) (steps until : ℕ) (s : State) (tss ordered : Forest) (o : 
   facts_from at [] f a = tt
   facts_from at (y ∷ zs) f a = (
     record {
-      rises = (at_place (λ (t : Task). IsBorn s.clock.left tss t.thread) ys at y borns here).rises;
+      rises = (member_at (λ (t : Task). IsBorn s.clock.left tss t.thread) ys at y borns here).rises;
       few = few_frames at y here;
       kids = each_of (Kid c x ys at (frames_of y)) zs
-          (λ k z e t. kid_of ys own_names s.clock.left tss at y z here (at_place Named ys (suc (at + k)) z own_names
-          (there k z e)) (at_place (λ y. TaskFine c h.savable.scene s.clock.next y × Still y.thread × HasOwn ys y) ys
-          at y own_given here).1 (at_place (λ (t :
+          (λ k z e t. kid_of ys own_names s.clock.left tss at y z here (member_at Named ys (suc (at + k)) z own_names
+          (there k z e)) (member_at (λ y. TaskFine c h.savable.scene s.clock.next y × Still y.thread × HasOwn ys y) ys
+          at y own_given here).1 (member_at (λ (t :
           Task). IsBorn s.clock.left tss t.thread) ys at y borns here)
-          (at_place (TaskIs s.clock.left) ys at y later_arms here) (at_place (Low s.clock.left) ys
+          (member_at (TaskIs s.clock.left) ys at y later_arms here) (member_at (Low s.clock.left) ys
           (suc (at + k)) z lows (there k z e)) (λ n b. away y.thread.who.path n (suc (at + k)) z (there k z e) b) t);
       falls = falls_of ys own_names at y zs here a.1;
       above = each_of (λ (z : Task). s.clock.left ≤ z.thread.who.number) zs
-          (λ k z e. (at_place (Low s.clock.left) ys (suc (at + k)) z lows (there k z e)).0);
+          (λ k z e. (member_at (Low s.clock.left) ys (suc (at + k)) z lows (there k z e)).0);
     },
     facts_from (suc at) zs (λ k j z d e. f (suc k) j z (d ∙ sums at k) e) a.1,
   )
@@ -415,7 +412,7 @@ module _ (c : Code) (steps until : ℕ) (s : State) (tss ordered : Forest) (o : 
       same i = omega arith
 
   has_own : (j : ℕ) (z : Task) → nth ys j ≡ Some z → HasOwn ys z
-  has_own j z e = at_place (HasOwn ys) ys j z (own_parents ys own_given) e
+  has_own j z e = member_at (HasOwn ys) ys j z (own_parents ys own_given) e
 
   -- the parent, and the one that is spelled for it
   record Parent (p : ℕ) (z v : Task) : Type 0 where
@@ -449,7 +446,7 @@ module _ (c : Code) (steps until : ℕ) (s : State) (tss ordered : Forest) (o : 
           q.other_is ez ev (parent_before j p z ez d) d))
 
   own_path : (j : ℕ) (z : Task) → nth ys j ≡ Some z → z.thread.who.path ≡ z.thread.who.up ++ z.thread.who.number ∷ []
-  own_path j z e = who_path z.thread.who.role z.thread.who (at_place Named ys j z own_names e)
+  own_path j z e = who_path z.thread.who.role z.thread.who (member_at Named ys j z own_names e)
 
   path_pair : (j : ℕ) (z v : Task) → nth ys j ≡ Some z → nth us j ≡ Some v →
       PathsPaired F G [] [] z.thread.who.up v.thread.who.up → PathsPaired F G [] []
@@ -495,7 +492,7 @@ module _ (c : Code) (steps until : ℕ) (s : State) (tss ordered : Forest) (o : 
       (frames_of v)
   frames_pair j z v ez ev =
       let a = (fact j z v ez ev).alike in
-      let fine = (at_place (λ y. TaskFine c h.savable.scene s.clock.next y × Still y.thread × HasOwn ys y) ys j z
+      let fine = (member_at (λ y. TaskFine c h.savable.scene s.clock.next y × Still y.thread × HasOwn ys y) ys j z
       own_given ez).0 in
       let q = place j z v ez ev in
       frames_paired F G z.thread.who.path v.thread.who.path (frames_of z) (frames_of v) (a.frame, a.below) (
@@ -568,7 +565,7 @@ module _ (c : Code) (steps until : ℕ) (s : State) (tss ordered : Forest) (o : 
           q.others q.rest behind.0 found_arm.1 (q.own behind.0 found_arm.0 found_arm.1 behind.1 found_arm.2) found_arm.3
 
       same : w.0.thread.who.number ≡ n
-      same = number (some_is
+      same = number (same_Some _ _
           (sym (arm_runs ys own_names q.place i y w.0 gs (subst (λ j. nth ys j ≡ Some y) (sym same_place) ey)
           (λ m. ap (kp.arm_in m) e) w.1) ∙ d))
         where
@@ -631,7 +628,7 @@ module _ (c : Code) (steps until : ℕ) (s : State) (tss ordered : Forest) (o : 
   roots_above : NoneBelow s.clock.left (children (is_own ys) ys us)
   roots_above = none_below s.clock.left (children (is_own ys) ys us)
       (children_from c x ys (is_own ys) 0 s.clock.left ys us (omega arith) spelt (each_of
-      (λ (z : Task). s.clock.left ≤ z.thread.who.number) ys (λ k z e. (at_place (Low s.clock.left) ys k z lows e).0)))
+      (λ (z : Task). s.clock.left ≤ z.thread.who.number) ys (λ k z e. (member_at (Low s.clock.left) ys k z lows e).0)))
 
   pub same_trees : TableSorts → SameButRoots (state x) (filled ordered) (trees c x)
   same_trees sorts = sorts (children (is_own ys) ys us) (entries ys 0 ys us) (state x) (filled ordered) (trees c x)
@@ -652,11 +649,11 @@ module _ (c : Code) (steps until : ℕ) (s : State) (tss ordered : Forest) (o : 
     path = (place a.0.0 y u a.0.1 a.0.2).here.path;
     alone = λ entry e. a.0.3.root_up
         (ap (λ up. place_of up ys)
-        (role_up y.thread.who.role y.thread.who entry (at_place Named ys a.0.0 y own_names a.0.1) e) ∙
+        (role_up y.thread.who.role y.thread.who entry (member_at Named ys a.0.0 y own_names a.0.1) e) ∙
         no_place ys own_names);
     above = above (place a.0.0 y u a.0.1 a.0.2);
     still = still_alike y u a.0.3.alike.frame a.0.3.alike.below
-        (at_place (λ y. TaskFine c h.savable.scene s.clock.next y × Still y.thread × HasOwn ys y) ys
+        (member_at (λ y. TaskFine c h.savable.scene s.clock.next y × Still y.thread × HasOwn ys y) ys
         a.0.0 y own_given a.0.1).1 (lowest_number a.0.0 y u a.0.1 a.0.2);
   }
     where
@@ -675,7 +672,7 @@ module _ (c : Code) (steps until : ℕ) (s : State) (tss ordered : Forest) (o : 
 
   over : (y u t v : Task) → R y u → R t v → t.thread.who.path ≡ y.thread.who.up → Over t v y u
   over y u t v a b e = record {
-    path = sym (g.2 ∙ ap (λ (w : Task). w.thread.who.path) (some_is (sym g.1 ∙ b.0.2)));
+    path = sym (g.2 ∙ ap (λ (w : Task). w.thread.who.path) (same_Some _ _ (sym g.1 ∙ b.0.2)));
     number = fall (place a.0.0 y u a.0.1 a.0.2) (place b.0.0 t v b.0.1 b.0.2);
   }
     where

@@ -1,11 +1,10 @@
 -- Pairs of numbers of which each two are in one order, put in that order.
-use Rattle.std.proofs.Common.{◌≡◌, ℕ, ◌≤◌, ◌<◌, List, [], ◌∷◌, ◌++◌, Bool, true, false, cond, refl, sym, ap, arith, ◌⊎◌}
+use Rattle.std.proofs.Common.{◌≡◌, ℕ, ◌≤◌, ◌<◌, [], ◌∷◌, ◌++◌, Bool, true, false, cond, refl, sym, ap, arith, ◌⊎◌}
 use mathlib.Core.Logic.{inl, inr}
 use Rattle.verse_meaning_state.specs.Waits.{ltn}
+use Rattle.verse_meaning_state.proofs.Numbers.{ltn_is_not, ltn_is}
 use Rattle.verse_code_machine_saved.specs.Numbers.{Pairs, AllAbove, Rising, NoneBelow}
 use Rattle.run_save_shots.specs.Lists.{Each, EachTwo}
-use Rattle.run_save_kept.proofs.Paths.{ltn_is, ltn_no}
-use Rattle.run_save_kept.proofs.Sums.{each_join}
 
 -- the first is below the second in both numbers
 abbrev pub IsBelow : ℕ × ℕ → ℕ × ℕ → Type 0
@@ -101,7 +100,7 @@ put_rises p (q ∷ ps) a r = by_test (ltn p.0 q.0) refl (put_rises p ps a.1 r.1)
     lower e (inr h) = crossed p.0 q.0 (ltn_is p.0 q.0 e) h.0
 
     higher : ltn p.0 q.0 ≡ false → Aligned p q → IsBelow q p
-    higher e (inl h) = no p.0 q.0 (ltn_no p.0 q.0 e) h.0
+    higher e (inl h) = no p.0 q.0 (ltn_is_not p.0 q.0 e) h.0
       where
         no : {A : Type 0} (i j : ℕ) → j ≤ i → i < j → A
         no i j e f = absurd (omega (arith, e, f))
@@ -128,11 +127,6 @@ pub sorted_above : (bound : ℕ) (ps : Pairs) → Each (IsAbove bound) ps → No
 sorted_above bound ps a = none_below bound (sorted ps) (sorted_each (IsAbove bound) ps a)
 
 -- ---- two lists of pairs together
-
-pub two_join : {A : Type 0} (R : A → A → Type 0) (xs ys : List A) → EachTwo R xs → EachTwo R ys →
-    Each (λ x. Each (R x) ys) xs → EachTwo R (xs ++ ys)
-two_join R [] ys a b d = b
-two_join R (x ∷ xs) ys a b d = (each_join (R x) xs ys a.0 d.0, two_join R xs ys a.1 b d.1)
 
 pub in_front : (p : ℕ × ℕ) (xs ys : Pairs) → In p xs → In p (xs ++ ys)
 in_front p [] ys h = absurd h

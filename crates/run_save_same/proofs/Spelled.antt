@@ -3,11 +3,16 @@ use Rattle.std.proofs.Common.{◌≡◌, ℕ, zero, suc, ◌+◌, ◌≤◌, ◌
 use Rattle.std.proofs.Common.{refl, sym, subst}
 use Rattle.std.proofs.Common.{ap, ◌∙◌, arith, ◌⊎◌, cond, option_map}
 use mathlib.Core.Logic.{inl, inr}
+use Rattle.std.proofs.lemmas.Bool.{cases_Bool}
+use Rattle.std.proofs.lemmas.Option.{same_Some}
+use Rattle.verse_base.proofs.Facts.{length_more, append_one}
 use Rattle.verse_code.specs.declared.codes.Code.{Code}
 use Rattle.verse_meaning_state.specs.State.{State}
 use Rattle.verse_meaning_state.specs.Waits.{nth, ltn}
+use Rattle.verse_meaning_state.proofs.Numbers.{nth_first}
 use Rattle.verse_code_machine.specs.Tasks.{Role, root, part, Who, Task, same_path}
 use Rattle.verse_code_machine.specs.Runs.{Forest}
+use Rattle.verse_code_machine.proofs.Paths.{same_is}
 use Rattle.verse_code_machine_parents.specs.Parents.{whos, Rooted, Still, EachTask, TreesRooted}
 use Rattle.run_save_shots.specs.Lists.{Each, EachAt, Reordered}
 use Rattle.run_save_shots.specs.Kept.{Kept}
@@ -21,10 +26,11 @@ use Rattle.run_save_moves.specs.Fine.{Scene}
 use Rattle.run_save_fits.specs.Held.{IsSome, RoleIs, TaskFine, Savable, tasks_sum, trees_sum, one}
 use Rattle.run_save_fits.proofs.KeptTasks.{no_place}
 use Rattle.run_save_fits.proofs.KeptOrder.{walk_well, parents_fit}
+use Rattle.run_save_fits.proofs.KeptAll.{reordered_each, reordered_sum, each_rooted}
+use Rattle.run_save_fits.proofs.Counted.{one_most}
 use Rattle.run_save_kept.specs.Orders.{Lined, last, is_named, awaits, skips, weight, Orderly}
 use Rattle.run_save_kept.specs.Growing.{filled}
-use Rattle.run_save_kept.proofs.Paths.{two_ways, one_most, same_is, is_same, not_same}
-use Rattle.run_save_kept.proofs.Sums.{reordered_each, reordered_sum}
+use Rattle.run_save_kept.proofs.Paths.{is_same, not_same}
 use Rattle.run_save_kept.proofs.Siblings.{Named, HasOwn, trees_names, walk_each, walk_sum, parents_from}
 use Rattle.run_save_kept.proofs.Arms.{placed, found}
 use Rattle.run_save_kept.proofs.Grown.{trees_again}
@@ -33,14 +39,9 @@ use Rattle.run_save_resumes.proofs.Naming.{names_apart}
 use Rattle.run_save_same.specs.Alike.{TaskAlike, TreesAlike, TreesAreSpelled}
 use Rattle.run_save_same.proofs.Framing.{all_rested, Made, made}
 use Rattle.run_save_same.proofs.Pairs.{EachPair, grown_pair, trees_alike}
-use Rattle.run_save_orders.proofs.Meeting.{none_some, some_is}
+use Rattle.run_save_orders.proofs.Meeting.{none_some}
 
 -- ---- lists
-
-front_at : {A : Type 0} (xs ys : List A) (i : ℕ) (x : A) → nth xs i ≡ Some x → nth (xs ++ ys) i ≡ Some x
-front_at [] ys i x e = none_some e
-front_at (z ∷ xs) ys zero x e = e
-front_at (z ∷ xs) ys (suc i) x e = front_at xs ys i x e
 
 who_at : (us : List Task) (i : ℕ) → i < length us → (v : Task) × (nth us i ≡ Some v) × (nth (whos us) i ≡ Some v.thread.who)
 who_at [] i h = absurd (never i h)
@@ -57,14 +58,6 @@ pub whos_end : (us : List Task) (u : Task) → whos (us ++ u ∷ []) ≡ whos us
 whos_end [] u = refl
 whos_end (v ∷ us) u = ap (λ ws. v.thread.who ∷ ws) (whos_end us u)
 
-join : (xs : List Task) (x : Task) (zs : List Task) → xs ++ x ∷ zs ≡ (xs ++ x ∷ []) ++ zs
-join [] x zs = refl
-join (z ∷ xs) x zs = ap (λ ys. z ∷ ys) (join xs x zs)
-
-longer : (us : List Task) (u : Task) → length (us ++ u ∷ []) ≡ suc (length us)
-longer [] u = refl
-longer (v ∷ us) u = ap suc (longer us u)
-
 both_each : (P Q : Task → Type 0) (xs : List Task) → Each P xs → Each Q xs → Each (λ x. P x × Q x) xs
 both_each P Q [] a b = tt
 both_each P Q (x ∷ xs) a b = ((a.0, b.0), both_each P Q xs a.1 b.1)
@@ -76,10 +69,6 @@ task_each P (t ∷ ts) a = (a.0, task_each P ts a.1)
 trees_still : (left : ℕ) (tss : Forest) → TreesRooted left tss → Each (λ ts. Each (λ (t : Task). Still t.thread) ts) tss
 trees_still left [] a = tt
 trees_still left (ts ∷ tss) a = (task_each (λ (t : Task). Still t.thread) ts a.1, trees_still left tss a.2)
-
-trees_rooted : (left : ℕ) (tss : Forest) → TreesRooted left tss → Each (λ ts. Rooted left (whos ts)) tss
-trees_rooted left [] a = tt
-trees_rooted left (ts ∷ tss) a = (a.0, trees_rooted left tss a.2)
 
 each_task : (P : Task → Type 0) (ts : List Task) → Each P ts → EachTask P ts
 each_task P [] a = tt
@@ -173,7 +162,7 @@ module _ (c : Code) (x : Kept) (z : Scene) (next : ℕ) (ys us : List Task) (nam
             role = part_role y.thread.who.role own p f;
             named = some_end h.0.thread.who.path n;
             root_up = λ g. absurd (no_both (place_of y.thread.who.up ys) p g f);
-            part_up = λ q g. (h.0, ap (nth us) (some_is (sym g ∙ f)) ∙ (ap (λ l. nth l p) e ∙ front_at fu rest p h.0 h.1), refl);
+            part_up = λ q g. (h.0, ap (nth us) (same_Some _ _ (sym g ∙ f)) ∙ (ap (λ l. nth l p) e ∙ nth_first fu rest p h.0 h.1), refl);
           })
 
   abbrev More : List Task → List Task → List Task
@@ -185,8 +174,9 @@ module _ (c : Code) (x : Kept) (z : Scene) (next : ℕ) (ys us : List Task) (nam
   facts fu [] e n g p = tt
   facts fu (y ∷ zs) e n g p = subst (EachPair (Fact ys us) (y ∷ zs)) (sym step) (
     fact,
-    facts (fu ++ m.task ∷ []) zs (e ∙ (ap (λ l. fu ++ l) step ∙ join fu m.task
-        (More (fu ++ m.task ∷ []) zs))) n.1 g.1 (subst (λ i. EachAt ParentBefore i (map (kp.task ys) zs)) (sym (longer fu m.task)) p.1),
+    facts (fu ++ m.task ∷ []) zs (e ∙ (ap (λ l. fu ++ l) step ∙ append_one fu m.task
+        (More (fu ++ m.task ∷ []) zs))) n.1 g.1
+        (subst (λ i. EachAt ParentBefore i (map (kp.task ys) zs)) (sym (length_more fu m.task)) p.1),
   )
     where
       m : Made c x (length (whos fu)) (kp.task ys y) (map (kp.task ys) zs) (whos fu) y
@@ -246,7 +236,7 @@ module _ (ys us : List Task) (unique : (p : List ℕ) → tasks_sum (is_named p)
       by_place None e = not_same y.thread.who.up t.thread.who.path
           (λ f. none_some (sym e ∙ found y.thread.who.up ys b.0 t b.1 f (unique y.thread.who.up))) ∙
           sym (ap (λ up. same_path up v.thread.who.path) (a.3.root_up e) ∙ empty_not v.thread.who.path b.3.named)
-      by_place (Some p) e = by_test (two_ways (same_path y.thread.who.up t.thread.who.path))
+      by_place (Some p) e = by_test (cases_Bool (same_path y.thread.who.up t.thread.who.path))
         where
           h : (w : Task) × (nth us p ≡ Some w) × (u.thread.who.up ≡ w.thread.who.path)
           h = a.3.part_up p e
@@ -254,12 +244,12 @@ module _ (ys us : List Task) (unique : (p : List ℕ) → tasks_sum (is_named p)
           by_test : (same_path y.thread.who.up t.thread.who.path ≡ true) ⊎ (same_path y.thread.who.up t.thread.who.path ≡ false) →
               same_path y.thread.who.up t.thread.who.path ≡ same_path u.thread.who.up v.thread.who.path
           by_test (inl f) =
-              let same = some_is (sym e ∙ found y.thread.who.up ys b.0 t b.1 (same_is y.thread.who.up t.thread.who.path f)
+              let same = same_Some _ _ (sym e ∙ found y.thread.who.up ys b.0 t b.1 (same_is y.thread.who.up t.thread.who.path f)
               (unique y.thread.who.up)) in
-              let task = some_is (sym h.1 ∙ (ap (nth us) same ∙ b.2)) in
+              let task = same_Some _ _ (sym h.1 ∙ (ap (nth us) same ∙ b.2)) in
               f ∙ sym (is_same u.thread.who.up v.thread.who.path (h.2 ∙ ap (λ (w : Task). w.thread.who.path) task))
           by_test (inr f) = f ∙ sym (not_same u.thread.who.up v.thread.who.path
-              (λ g. other (some_is (sym (found w_path us p h.0 h.1 refl (apart w_path)) ∙
+              (λ g. other (same_Some _ _ (sym (found w_path us p h.0 h.1 refl (apart w_path)) ∙
               found w_path us b.0 v b.2 (sym h.2 ∙ g) (apart w_path)))))
             where
               w_path : List ℕ
@@ -268,7 +258,7 @@ module _ (ys us : List Task) (unique : (p : List ℕ) → tasks_sum (is_named p)
               other : p ≡ b.0 → ⊥
               other same = let q = placed y.thread.who.up ys p e in both (same_path y.thread.who.up t.thread.who.path)
                   (is_same y.thread.who.up t.thread.who.path
-                  (q.2 ∙ ap (λ (w : Task). w.thread.who.path) (some_is (sym q.1 ∙ (ap (nth ys) same ∙ b.1))))) f
+                  (q.2 ∙ ap (λ (w : Task). w.thread.who.path) (same_Some _ _ (sym q.1 ∙ (ap (nth ys) same ∙ b.1))))) f
                 where
                   both : (b : Bool) → b ≡ true → b ≡ false → ⊥
                   both true e f = cc
@@ -303,7 +293,7 @@ module _ (c : Code) (steps until : ℕ) (s : State) (tss ordered : Forest) (o : 
   still = reordered_each (λ ts. Each (λ (t : Task). Still t.thread) ts) o (trees_still s.clock.left tss a.rooted)
 
   pub rooted : Each (λ ts. Rooted s.clock.left (whos ts)) ordered
-  rooted = reordered_each (λ ts. Rooted s.clock.left (whos ts)) o (trees_rooted s.clock.left tss a.rooted)
+  rooted = reordered_each (λ ts. Rooted s.clock.left (whos ts)) o (each_rooted s.clock.left tss a.rooted)
 
   pub names : Each Named all
   names = walk_each Named ordered (trees_names s.clock.left ordered again.lines)

@@ -1,5 +1,5 @@
 -- What is kept of a run that stopped spells its trees and its waits again.
-use Rattle.std.proofs.Common.{◌≡◌, suc, List, [], ◌∷◌, ◌++◌, refl, sym, subst, ap, ◌∙◌}
+use Rattle.std.proofs.Common.{◌≡◌, suc, List, [], ◌∷◌, ◌++◌, refl, sym, subst, ◌∙◌}
 use Rattle.verse_meaning_state.specs.Waits.{Wait}
 use Rattle.verse_code_machine.specs.Tasks.{Rest, asleep, group, Task, waits_with, waits_of, tree_waits}
 use Rattle.verse_code_machine.specs.Runs.{Forest}
@@ -7,6 +7,7 @@ use Rattle.run_save_shots.specs.Spelling.{trees}
 use Rattle.run_save_fits.specs.Laws.{StageSavable, RunIsSavable}
 use Rattle.run_save_kept.specs.Laws.{StageOrderly, RunIsOrderly}
 use Rattle.run_save_kept.specs.Growing.{filled}
+use Rattle.run_save_orders.proofs.Waits.{filled_waits}
 use Rattle.run_save_same.specs.Alike.{RestAlike, TasksAlike, TreesAlike}
 use Rattle.run_save_same.specs.Runs.{StoppedRunIsSpelled}
 use Rattle.run_save_same.proofs.Spelled.{trees_are_spelled}
@@ -35,14 +36,9 @@ trees_wait (ts ∷ tss) (us ∷ uss) a = both (tasks_wait ts us a.0) (trees_wait
 trees_wait [] (us ∷ uss) a = absurd a
 trees_wait (ts ∷ tss) [] a = absurd a
 
-filled_wait : (tss : Forest) → tree_waits (filled tss) ≡ tree_waits tss
-filled_wait [] = refl
-filled_wait ([] ∷ tss) = filled_wait tss
-filled_wait ((t ∷ ts) ∷ tss) = ap (λ ws. waits_of (t ∷ ts) ++ ws) (filled_wait tss)
-
 pub stopped_run_is_spelled : RunIsSavable → RunIsOrderly → StoppedRunIsSpelled
 stopped_run_is_spelled savable orderly c ns steps until s tss x valid bytes inputs short e y =
     let a = trees_are_spelled c steps until s tss x
     (subst (StageSavable c steps until) e (savable c ns steps until (suc steps) valid bytes inputs short))
     (subst StageOrderly e (orderly c ns steps until (suc steps) valid bytes)) y in
-    record { alike = a; waits = sym (trees_wait (filled y.ordered) (trees c x) a) ∙ filled_wait y.ordered }
+    record { alike = a; waits = sym (trees_wait (filled y.ordered) (trees c x) a) ∙ filled_waits y.ordered }

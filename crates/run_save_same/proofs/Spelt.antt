@@ -2,6 +2,7 @@
 use Rattle.std.proofs.Common.{◌≡◌, ℕ, zero, suc, ◌+◌, ◌*◌, length, map, List, [], ◌∷◌, ◌++◌, Option, Some, None, refl}
 use Rattle.std.proofs.Common.{sym}
 use Rattle.std.proofs.Common.{subst, ap, ◌∙◌, arith}
+use Rattle.std.proofs.lemmas.List.{length-map}
 use Rattle.verse_code.specs.declared.codes.Code.{Code}
 use Rattle.verse_code_machine.specs.Tasks.{Frame, Who, Task}
 use Rattle.verse_code_machine_parents.specs.Parents.{whos, Still}
@@ -13,7 +14,7 @@ use Rattle.run_save_shots.specs.Spelling as sp
 use Rattle.run_save_shots.specs.Spelling.{frames_from, with_frames, who, tasks_from}
 use Rattle.run_save_moves.specs.Fine.{Scene}
 use Rattle.run_save_fits.specs.Held.{TaskFine}
-use Rattle.run_save_fits.proofs.KeptTasks.{map_length, frames_number}
+use Rattle.run_save_fits.proofs.KeptTasks.{frames_number}
 use Rattle.run_save_births.specs.Births.{births, births_of}
 use Rattle.run_save_same.proofs.Framing.{all_rested, Made, made}
 use Rattle.run_save_same.proofs.Spelled.{whos_end}
@@ -57,7 +58,7 @@ module _ (c : Code) (x : Kept) (ys : List Task) where
   number_is ts n e = ap number_of e
 
   pub number_kept : (zs : List Task) → number_at x (kept_of zs) ≡ number_of (length zs)
-  number_kept zs = number_is (kept_of zs) (length zs) (map_length (kp.task ys) zs)
+  number_kept zs = number_is (kept_of zs) (length zs) (length-map zs (kp.task ys))
 
   -- the births of the n lowest frames of the task at a place, the topmost of them first, behind k - 1 above them
   abbrev pub births_made : (at : ℕ) (own ts : List KeptTask) (k n : ℕ) → List ℕ

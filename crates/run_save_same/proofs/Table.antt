@@ -3,23 +3,24 @@ use Rattle.std.proofs.Common.{◌≡◌, ℕ, zero, suc, ◌+◌, ◌≤◌, len
 use Rattle.std.proofs.Common.{cond, refl, sym}
 use Rattle.std.proofs.Common.{subst, ap, ◌∙◌, arith}
 use mathlib.Core.Logic.{inl, inr}
+use Rattle.std.proofs.lemmas.Option.{same_Some}
 use Rattle.task_tree.specs.Tasks.{is_child}
 use Rattle.verse_code.specs.declared.codes.Code.{Code}
 use Rattle.verse_meaning_state.specs.Waits.{nth}
 use Rattle.verse_code_machine.specs.Tasks.{Task, same_path}
+use Rattle.verse_code_machine.proofs.Paths.{same_self}
 use Rattle.verse_code_machine_saved.specs.Numbers.{Pairs, Rising, NoneBelow}
 use Rattle.verse_code_machine_saved.specs.Pairing.{Entry, IsAlone, AreDistinct, AreOrdered}
 use Rattle.run_save_shots.specs.Lists.{Each, EachTwo, from}
 use Rattle.run_save_shots.specs.Kept.{Kept}
 use Rattle.run_save_shots.specs.Keeping.{place_of}
+use Rattle.run_save_shots.proofs.Lists.{each_join, two_join}
 use Rattle.run_save_fits.specs.Held.{IsSome, tasks_sum, one}
 use Rattle.run_save_kept.specs.Orders.{is_named}
-use Rattle.run_save_kept.proofs.Paths.{same_self}
 use Rattle.run_save_births.specs.Births as b
 use Rattle.run_save_births.specs.Births.{births_of}
 use Rattle.run_save_orders.specs.Roots.{with_roots}
-use Rattle.run_save_kept.proofs.Sums.{each_join}
-use Rattle.run_save_same.proofs.Sorting.{Aligned, IsAbove, In, sorted, sorted_rises, sorted_above, two_join}
+use Rattle.run_save_same.proofs.Sorting.{Aligned, IsAbove, In, sorted, sorted_rises, sorted_above}
 use Rattle.run_save_same.proofs.Spelt.{kept_of, number_of, births_made, IsSpelt, Spelt}
 use Rattle.run_save_same.proofs.Depths.{frames_of}
 use Rattle.run_save_same.proofs.Aligning.{is_its, zipped, children, Falls, Kid, zipped_two, zipped_from, made_rises}
@@ -205,9 +206,6 @@ module _ (c : Code) (x : Kept) (ys : List Task) where
     pub own : (k j : ℕ) (z : Task) → j ≡ suc (p + k) → nth zs j ≡ Some z → nth behind k ≡ Some z
     pub their : (k j : ℕ) (z : Task) → j ≡ suc (p + k) → nth vs j ≡ Some z → nth others k ≡ Some z
 
-  some_is : {A : Type 0} {a d : A} → Some a ≡ Some d → a ≡ d
-  some_is e = cc
-
   none_some : {A B : Type 0} {a : A} → None ≡ Some a → B
   none_some e = cc
 
@@ -229,8 +227,8 @@ module _ (c : Code) (x : Kept) (ys : List Task) where
   here_at at p [] vs s y u e f = none_some e
   here_at at p (z ∷ zs) [] s y u e f = absurd s
   here_at at zero (z ∷ zs) (v ∷ vs) s y u e f =
-      subst (λ w. Here at 0 w u (z ∷ zs) (v ∷ vs)) (some_is e) (subst (λ w. Here at 0 z w (z ∷ zs) (v ∷ vs))
-      (some_is f) (record {
+      subst (λ w. Here at 0 w u (z ∷ zs) (v ∷ vs)) (same_Some _ _ e) (subst (λ w. Here at 0 z w (z ∷ zs) (v ∷ vs))
+      (same_Some _ _ f) (record {
         behind = zs;
         others = vs;
         place = at;
@@ -284,10 +282,10 @@ module _ (c : Code) (x : Kept) (ys : List Task) where
   child_in test (w ∷ zs) [] k z v e f t = none_some f
   child_in test (w ∷ zs) (u ∷ vs) zero z v e f t =
       subst (λ (a : Task). In (a.thread.who.number, v.thread.who.number) (children test (w ∷ zs) (u ∷ vs)))
-      (some_is e) (subst (λ (a : Task). In (w.thread.who.number, a.thread.who.number)
-      (children test (w ∷ zs) (u ∷ vs))) (some_is f) (in_first (test w)
+      (same_Some _ _ e) (subst (λ (a : Task). In (w.thread.who.number, a.thread.who.number)
+      (children test (w ∷ zs) (u ∷ vs))) (same_Some _ _ f) (in_first (test w)
       (w.thread.who.number, u.thread.who.number) (children test zs vs)
-      (subst (λ a. test a ≡ true) (sym (some_is e)) t)))
+      (subst (λ a. test a ≡ true) (sym (same_Some _ _ e)) t)))
   child_in test (w ∷ zs) (u ∷ vs) (suc k) z v e f t =
       in_cond (test w) (z.thread.who.number, v.thread.who.number) (w.thread.who.number, u.thread.who.number)
       (children test zs vs) (child_in test zs vs k z v e f t)
@@ -328,7 +326,7 @@ module _ (c : Code) (x : Kept) (ys : List Task) where
           later : (k : ℕ) → nth (y ∷ zs) k ≡ Some z →
               (w : Task) × (one w ≡ true) × In (w.thread.who.number, number_of c x ys (length (from one zs)))
               (children test (y ∷ zs) (u ∷ vs))
-          later zero f = clash (one z) t (subst (λ a. one a ≡ false) (some_is f) g)
+          later zero f = clash (one z) t (subst (λ a. one a ≡ false) (same_Some _ _ f) g)
           later (suc k) f = let h = r k f in (
             h.0,
             h.1,

@@ -5,6 +5,8 @@
 //! `Fitting`, when that fits a code; `Naming` and `Spelling`, the state and the trees of tasks that
 //! it spells;
 //! `Keeping`, what is kept of a state and trees of tasks.
+//!
+//! The public lemmas, which crates above cite, are those of `proofs/Lists` and `proofs/Steps`.
 #![tactic(auto)]
 
 pub mod shots;

@@ -1,5 +1,4 @@
 pub mod Spells
 mod Steps
 pub mod Orders
-mod Tops
 mod Made

@@ -1,49 +1,18 @@
 -- A task more in the trees.
-use Rattle.std.proofs.Common.{◌≡◌, ℕ, zero, suc, ◌<◌, Bool, true, false, cond, List, [], ◌∷◌, ◌++◌, map, Option, refl, sym, ap}
+use Rattle.std.proofs.Common.{◌≡◌, ℕ, ◌<◌, Bool, true, false, cond, List, [], ◌∷◌, ◌++◌, map, Option, refl, sym, ap}
 use Rattle.std.proofs.Common.{subst, ◌∙◌, append_assoc, arith}
 use Rattle.std.proofs.lemmas.List.{append-nil, map-append}
-use Rattle.verse_meaning_state.specs.Waits.{eqn}
 use Rattle.verse_code_machine.specs.Tasks.{Task, Who, root, part, root_named, child_named, same_path}
 use Rattle.verse_code_machine.specs.Runs.{Forest}
+use Rattle.verse_code_machine.proofs.Paths.{same_is, same_self}
 use Rattle.run_save_shots.specs.Lists.{Each, Reordered, no_elements, one_more}
 use Rattle.run_save_shots.specs.Spelling.{before_parent, planted, grown}
+use Rattle.run_save_shots.proofs.Lists.{last_same}
 use Rattle.run_save_spelled.specs.Growing.{number_of, path_of, flat, In, Begins, begins_root, begins_part, Sprouts, Inserted}
 use Rattle.run_save_spelled.proofs.Forests.{each_append, each_parts, each_weaker, each_in, reordered_in, reordered_each, reordered_apart}
 use Rattle.run_save_spelled.proofs.Forests.{AllApart, apart_around, flat_append, flat_around, flat_last, placed}
 
 -- ---- names
-
-eqn_is : (n m : ℕ) → eqn n m ≡ true → n ≡ m
-eqn_is zero zero e = refl
-eqn_is zero (suc m) e = absurd (cc)
-eqn_is (suc n) zero e = absurd (cc)
-eqn_is (suc n) (suc m) e = ap suc (eqn_is n m e)
-
-eqn_same : (n : ℕ) → eqn n n ≡ true
-eqn_same zero = refl
-eqn_same (suc n) = eqn_same n
-
-same_is : (a b : List ℕ) → same_path a b ≡ true → a ≡ b
-same_is [] [] e = refl
-same_is [] (j ∷ b) e = absurd (cc)
-same_is (i ∷ a) [] e = absurd (cc)
-same_is (i ∷ a) (j ∷ b) e = by (eqn i j) refl (λ h. same_is a b h) e
-  where
-    by : (c : Bool) → eqn i j ≡ c → (same_path a b ≡ true → a ≡ b) → cond c (same_path a b) false ≡ true → i ∷ a ≡ j ∷ b
-    by true f rest e = ap (λ n. n ∷ a) (eqn_is i j f) ∙ ap (λ w. j ∷ w) (rest e)
-    by false f rest e = absurd (cc)
-
-pub same_self : (a : List ℕ) → same_path a a ≡ true
-same_self [] = refl
-same_self (i ∷ a) = ap (λ c. cond c (same_path a a) false) (eqn_same i) ∙ same_self a
-
-last_same : (a b : List ℕ) (n m : ℕ) → a ++ n ∷ [] ≡ b ++ m ∷ [] → n ≡ m
-last_same [] [] n m e = cc
-last_same [] (y ∷ []) n m e = absurd (cc)
-last_same [] (y ∷ z ∷ b) n m e = absurd (cc)
-last_same (x ∷ []) [] n m e = absurd (cc)
-last_same (x ∷ z ∷ a) [] n m e = absurd (cc)
-last_same (x ∷ a) (y ∷ b) n m e = let tails : a ++ n ∷ [] ≡ b ++ m ∷ [] = cc in last_same a b n m tails
 
 -- a name ends with the task's number
 abbrev pub IsNamed : Task → Type 0

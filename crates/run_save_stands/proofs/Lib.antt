@@ -1,2 +1,1 @@
 pub mod StandSteps
-pub mod TopSteps

@@ -1,19 +1,14 @@
 -- Steps of the readers of lists.
-use Rattle.std.proofs.Common.{◌≡◌, ℕ, suc, ◌+◌, ◌-◌, ◌<◌, ◌≤◌, List, [], ◌∷◌, ◌++◌, map, Result, Ok, Err, refl, sym, ap, ◌∙◌, append_assoc}
+use Rattle.std.proofs.Common.{◌≡◌, ℕ, suc, ◌+◌, ◌-◌, ◌<◌, ◌≤◌, List, [], ◌∷◌, ◌++◌, map, Result, Ok, Err, refl, sym, ap, ◌∙◌}
 use Rattle.std.proofs.Common.{arith}
 use Rattle.std.proofs.lemmas.List.{append-nil, map-append}
 use Rattle.verse_image.specs.declared.faults.Flaw.{Flaw}
 use Rattle.verse_image.specs.declared.faults.ReadFault.{ReadFault}
 use Rattle.verse_image.specs.declared.faults.ReadFault.TheVariants as faults
-use Rattle.verse_image.specs.Reading.{◌>>=◌, Fails, Reader}
-use Rattle.verse_image.proofs.ReadingSteps.{with_front, no_front}
+use Rattle.verse_image.specs.Reading.{Fails, Reader}
+use Rattle.verse_image.proofs.ReadingSteps.{with_front, no_front, regroup}
 use Rattle.run_save_shots.specs.Kept.{KeptFrame}
 use Rattle.run_save_format.specs.Reading.{many_at, Known, frame_at, frames_from}
-
-regroup : {A : Type 0} (front : List A) (n : A) (read : Result (List A × List ℕ) Flaw) →
-    with_front front (read >>= λ x. Ok (n ∷ x.0, x.1)) ≡ with_front (front ++ n ∷ []) read
-regroup front n (Ok x) = ap (λ ns. Ok (ns, x.1)) (sym (append_assoc front (n ∷ []) x.0))
-regroup front n (Err f) = refl
 
 -- ---- one reader over and over
 

@@ -2,13 +2,13 @@
 use Rattle.std.proofs.Common.{◌≡◌, ◌≢◌, ℕ, Bool, true, false, eqb, List, [], ◌∷◌, ◌++◌}
 use Rattle.std.proofs.Common.{refl, sym, ap, subst, ◌∙◌, arith, eq-eqb}
 use Rattle.std.proofs.lemmas.Bool.{and_parts, eqb-true, eqb-false}
-use Rattle.std.proofs.lemmas.List.Elements.{All-nil, All-cons, All-from_recursion, All-head, All-tail}
+use Rattle.std.proofs.lemmas.List.Elements.{All-nil, All-cons, All-from_recursion}
 use Rattle.verse_image.proofs.NumberLaws.{rest_bytes}
 use Rattle.run_save_format.specs.Format.{IsLine, Begins, saved_word, StandsBehind, this_line, later_line}
 use Rattle.run_save_format.specs.Whole.{behind_word, start_at}
 use Rattle.run_save_told.specs.Told.{StartStandsBehind}
 use Rattle.run_save_told.proofs.Telling.{Tells, tells, fails, tells_if, tells_as, told_is, Within}
-use Rattle.run_save_restores.proofs.Files.{word_is_line}
+use Rattle.run_save_restores.proofs.Files.{word_is_line, word_in_line}
 
 line_on : (b : ℕ) (line : List ℕ) → eqb b 10 ≡ false → IsLine line → IsLine (b ∷ line)
 line_on b line e p = All-cons (λ b. b ≢ 10) b line (eqb-false b 10 e) p
@@ -17,17 +17,6 @@ no_line : IsLine []
 no_line = All-nil (λ b. b ≢ 10)
 
 -- ---- the word
-
--- a word without a line feed that stands where a line begins is in that line
-word_in_line : (word line file : List ℕ) → IsLine word → behind_word word (line ++ 10 ∷ file) ≡ true → Begins word line
-word_in_line [] line file p e = (line, refl)
-word_in_line (w ∷ word) [] file p e =
-    let k = and_parts (eqb w 10) (behind_word word file) e in absurd (All-head (λ b. b ≢ 10) w word p (eqb-true w 10 k.0))
-word_in_line (w ∷ word) (b ∷ line) file p e =
-    let k = and_parts (eqb w b) (behind_word word (line ++ 10 ∷ file)) e in
-    let same : w ≡ b = eqb-true w b k.0 in
-    let on = word_in_line word line file (All-tail (λ b. b ≢ 10) w word p) k.1 in
-    (on.0, ap (λ l. b ∷ l) on.1 ∙ ap (λ n. n ∷ (word ++ on.0)) (sym same))
 
 -- a line that begins with the word begins with it in the file
 begins_here : (word more file : List ℕ) → behind_word word ((word ++ more) ++ file) ≡ true

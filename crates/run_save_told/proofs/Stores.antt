@@ -1,32 +1,22 @@
 -- Cells and spawned entries that are read are spelled by their bytes.
-use Rattle.std.proofs.Common.{ℕ, ◌≤◌, List, [], ◌∷◌, ◌++◌, length, Option, Some, None, slice_get}
+use Rattle.std.proofs.Common.{ℕ, ◌≤◌, List, [], length, Option, Some, None, slice_get}
 use Rattle.std.proofs.Common.{refl, sym, subst, arith}
 use Rattle.verse_image.specs.Format.{Field, byte}
 use Rattle.verse_image.specs.Reading.{Reader}
 use Rattle.verse_code.specs.declared.codes.Class.{Class}
 use Rattle.verse_value.specs.declared.runs.CellKind.TheVariants as cell
-use Rattle.run_save_shots.specs.Lists.{Each}
 use Rattle.run_save_format.specs.declared.forms.CellForm.{CellForm}
 use Rattle.run_save_format.specs.declared.forms.CellForm.TheVariants as of_cell
 use Rattle.run_save_format.specs.declared.weights.Where.TheVariants as place
 use Rattle.run_save_format.specs.Format.{wide, list, maybe, cell_kind, cell_field, given}
 use Rattle.run_save_format.specs.Reading.{cell_at, cell_forms, cells_at, entry_at, given_at, kind_at, kind_form_at, noted_at, object_of}
 use Rattle.run_save_format.specs.Reading.{spawned_at}
+use Rattle.run_save_format.proofs.Lefts.{AllLeft, Noted, one_more_left}
 use Rattle.run_save_told.proofs.Telling.{Tells, tells, fails, tells_then, tells_as, Within, Told, TellsField, With}
 use Rattle.run_save_told.proofs.Numbers.{tells_wide, tells_in, tells_most, tells_small, Numbered, tells_choice, tells_each, tells_maybe}
 use Rattle.run_save_told.proofs.Values.{Free, tells_weighed, tells_slots, tells_free}
 
 -- ---- how many bytes were left at each
-
-abbrev pub AllLeft : ℕ → List ℕ → Type 0
-AllLeft most lefts = Each (λ left. left ≤ most) lefts
-
-pub one_more_left : (most left : ℕ) (lefts : List ℕ) → AllLeft most lefts → left ≤ most → AllLeft most (lefts ++ left ∷ [])
-one_more_left most left [] all low = (low, tt)
-one_more_left most left (other ∷ lefts) all low = (all.0, one_more_left most left lefts all.1 low)
-
-abbrev pub Noted : {S : Type 0} → ℕ → S × List ℕ → Type 0
-Noted most s = AllLeft most s.1
 
 pub tells_noted : {most : ℕ} {A S : Type 0} (f : A → Field) (one : S → Reader (A × S)) →
     ((s : S) → TellsField most (Free f) (one s)) → (s : S × List ℕ) → Noted most s → TellsField most (With f (Noted most)) (noted_at one s)

@@ -13,11 +13,12 @@ use Rattle.run_save_format.specs.Values.{small_where}
 use Rattle.run_save_format.specs.Reading.{Known, cause_form, cause_of, contains, defers_at, form_at, frame_at, frames_at, frames_from}
 use Rattle.run_save_format.specs.Reading.{free_value_at, group_at, is_block, is_entry, is_event, is_running, leaf_at, maybe_at}
 use Rattle.run_save_format.specs.Reading.{may_stand, noted_at, place_at, rest_at, root_at, standing_at, task_at, tasks_at, wait_at}
+use Rattle.run_save_format.proofs.Lefts.{AllLeft, Noted}
 use Rattle.run_save_told.proofs.Telling.{Tells, tells, fails, tells_then, tells_if, tells_as, Within, Told, TellsField, With}
 use Rattle.run_save_told.proofs.Numbers.{tells_wide, tells_in, tells_most, tells_small, tells_where, byte_is, tells_flag}
 use Rattle.run_save_told.proofs.Numbers.{tells_optional, tells_each, tells_many, tells_maybe}
 use Rattle.run_save_told.proofs.Values.{Free, tells_free, tells_frees}
-use Rattle.run_save_told.proofs.Stores.{AllLeft, Noted, tells_noted}
+use Rattle.run_save_told.proofs.Stores.{tells_noted}
 
 -- this form, of so many
 abbrev OneForm : (forms form : ℕ) → ℕ → List ℕ → List ℕ → Type 0

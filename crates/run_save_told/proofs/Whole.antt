@@ -1,7 +1,7 @@
 -- What is read of a saved run is spelled by its bytes; and so a file has a saved run or a fault.
-use Rattle.std.proofs.Common.{◌≡◌, ℕ, zero, suc, ◌-◌, ◌≤◌, true, ltb, eqb, ◌⊎◌, inl, inr, List, [], ◌∷◌, ◌++◌, length}
+use Rattle.std.proofs.Common.{◌≡◌, ℕ, ◌-◌, ◌≤◌, true, ltb, eqb, ◌⊎◌, inl, inr, List, [], ◌∷◌, ◌++◌, length}
 use Rattle.std.proofs.Common.{take, Option, Some, None}
-use Rattle.std.proofs.Common.{slice_get, Result, Ok, Err, refl, sym, ap, subst, ◌∙◌, arith}
+use Rattle.std.proofs.Common.{Result, Ok, Err, refl, sym, ap, subst, ◌∙◌, arith}
 use Rattle.std.proofs.lemmas.Bool.{eqb-true}
 use Rattle.verse_base.specs.declared.limits.TheConstants.{MOST_TRACE_BYTES}
 use Rattle.verse_code.specs.declared.codes.Code.{Code}
@@ -19,13 +19,14 @@ use Rattle.run_save_format.specs.Faults.{ReadIsSaved, RunOrFault, SavedIsRead}
 use Rattle.run_save_format.specs.Format.{mark, wide, imaged, numbers, fields, SavedFile, StandsBehind}
 use Rattle.run_save_format.specs.Reading.{Found, code_at, coded, ended, is_written, kept_of, numbers_at, parts_found_at}
 use Rattle.run_save_format.specs.Whole.{broken, broken_cell, broken_entry, broken_task, file_at, left_at, or_else, run_at, whole}
+use Rattle.run_save_format.proofs.Lefts.{AllLeft, IfLeft, or_left, some_left}
 use Rattle.run_save_reads.specs.Reads.{ReadRunFits}
 use Rattle.run_save_told.specs.Told.{FoundIsSpelled}
 use Rattle.run_save_told.proofs.Telling.{Tells, tells, fails, tells_then, tells_if, tells_as, tells_up}
 use Rattle.run_save_told.proofs.Telling.{told_is, fault_is, Within, TellsField}
 use Rattle.run_save_told.proofs.Numbers.{tells_wide, tells_most}
 use Rattle.run_save_told.proofs.Values.{text_told}
-use Rattle.run_save_told.proofs.Stores.{AllLeft, tells_cells, tells_spawned}
+use Rattle.run_save_told.proofs.Stores.{tells_cells, tells_spawned}
 use Rattle.run_save_told.proofs.Tasks.{tells_tasks}
 use Rattle.run_save_told.proofs.Files.{tells_start, behind_within}
 use Rattle.run_save_reads.proofs.Runs.{take_bytes}
@@ -138,23 +139,6 @@ found_is_spelled bytes m b e =
     (told_is m (tells_parts bytes (record { fits = b; few = all })) e).spelled
 
 -- ---- the rules on the whole list
-
-abbrev IfLeft : ℕ → Option ℕ → Type 0
-IfLeft most None = Unit {0}
-IfLeft most (Some left) = left ≤ most
-
-one_left : (most : ℕ) (lefts : List ℕ) (n : ℕ) → AllLeft most lefts → IfLeft most (slice_get lefts n)
-one_left most [] n all = tt
-one_left most (left ∷ lefts) zero all = all.0
-one_left most (left ∷ lefts) (suc n) all = one_left most lefts n all.1
-
-some_left : (most : ℕ) (lefts : List ℕ) (o : Option ℕ) → AllLeft most lefts → IfLeft most (left_at lefts o)
-some_left most lefts None all = tt
-some_left most lefts (Some n) all = one_left most lefts n all
-
-or_left : (most : ℕ) (o other : Option ℕ) → IfLeft most o → IfLeft most other → IfLeft most (or_else o other)
-or_left most None other p q = q
-or_left most (Some left) other p q = p
 
 broken_left : (most : ℕ) (bytes : List ℕ) (m : Found) → PartsTold most bytes m → IfLeft most (broken m)
 broken_left most bytes m p =

@@ -9,6 +9,7 @@ use Rattle.task_tree.specs.declared.tasks.Role.TheVariants.{Root, Arm, Behind}
 use Rattle.verse_code.specs.declared.codes.Code.{Code}
 use Rattle.verse_value.specs.Val.{Val}
 use Rattle.verse_meaning_state.specs.Waits.{eqn, ltn, nth}
+use Rattle.verse_meaning_state.proofs.Numbers.{eqn_same, ltn_yes, ltn_no}
 use Rattle.verse_code_machine.specs.Tasks.{Part}
 use Rattle.verse_code_machine.specs.Ends.{is_run}
 use Rattle.vm_tasks_laws.specs.Slots.{arms_at, ArmedBy}
@@ -24,20 +25,6 @@ use Rattle.run_save_trees.proofs.Firsts.{nth_here, each_here, each_at_here, each
 use Rattle.run_save_trees.proofs.Firsts.{no_later, the_one, another, all_later}
 
 -- ---- numbers
-
-ltn_yes : (n k : ℕ) → n < k → ltn n k ≡ true
-ltn_yes n zero l = absurd (omega (arith, l))
-ltn_yes zero (suc k) l = refl
-ltn_yes (suc n) (suc k) l = ltn_yes n k (omega (arith, l))
-
-ltn_no : (n k : ℕ) → k ≤ n → ltn n k ≡ false
-ltn_no n zero l = refl
-ltn_no zero (suc k) l = absurd (omega (arith, l))
-ltn_no (suc n) (suc k) l = ltn_no n k (omega (arith, l))
-
-eqn_self : (n : ℕ) → eqn n n ≡ true
-eqn_self zero = refl
-eqn_self (suc n) = eqn_self n
 
 eqn_not : (n k : ℕ) → (k ≡ n → ⊥) → eqn n k ≡ false
 eqn_not zero zero d = absurd (d refl)
@@ -55,7 +42,7 @@ module _ (c : Code) (s : Kept) (at : ℕ) (t : KeptTask) (ts : List KeptTask) (n
   one_runs place (None ∷ vs) zero e f =
       let here : place + 0 ≡ place = omega arith in
       let is : arm_at s at place ts ≡ n = ap (λ p. arm_at s at p ts) (sym here) ∙ f in
-      ap (λ b. cond b true (is_run n (parts_from c s at t ts (suc place) vs))) (ap (eqn n) is ∙ eqn_self n)
+      ap (λ b. cond b true (is_run n (parts_from c s at t ts (suc place) vs))) (ap (eqn n) is ∙ eqn_same n)
   one_runs place (Some v ∷ vs) (suc q) e f =
       let there : place + suc q ≡ suc place + q = omega arith in
       one_runs (suc place) vs q e (ap (λ p. arm_at s at p ts) (sym there) ∙ f)

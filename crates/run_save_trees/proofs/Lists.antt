@@ -28,14 +28,6 @@ module _ {A : Type 0} where
   laws_each P [] e = tt
   laws_each P (x ∷ xs) e = (e.0, laws_each P xs e.1)
 
-  pub each_weaker : (P Q : A → Type 0) (xs : List A) → ((x : A) → P x → Q x) → Each P xs → Each Q xs
-  each_weaker P Q [] f e = tt
-  each_weaker P Q (x ∷ xs) f e = (f x e.0, each_weaker P Q xs f e.1)
-
-  pub each_append : (P : A → Type 0) (xs ys : List A) → Each P xs → Each P ys → Each P (xs ++ ys)
-  each_append P [] ys e f = f
-  each_append P (x ∷ xs) ys e f = (e.0, each_append P xs ys e.1 f)
-
   pub each_here : (P : A → Type 0) (before : List A) (t : A) (ts : List A) → Each P (before ++ t ∷ ts) → P t
   each_here P [] t ts e = e.0
   each_here P (x ∷ before) t ts e = each_here P before t ts e.1

@@ -21,14 +21,11 @@ use Rattle.vm_tasks_laws.proofs.Climbing.{shown_append, ShownCut, shown_cut}
 use Rattle.vm_tasks_laws.proofs.Deals.{deal_append, deal_same}
 use Rattle.vm_tasks_laws.proofs.Steps.{trees_append, at_spot}
 use Rattle.vm_tasks_laws.proofs.Overs.{shown_head}
+use Rattle.vm_tasks_laws.proofs.Lists.{map_parts}
 use Rattle.run_save_shots.specs.Lists.{Each}
 use Rattle.run_save_shots.specs.Spelling.{before_parent}
 use Rattle.run_save_spelled.specs.Growing.{Inserted}
 use Rattle.run_save_trees.specs.Puts.{IsKept, Unlike}
-
-map_parts : (a : List m.Task) (y : m.Task) (b : List m.Task) → map slept (a ++ y ∷ b) ≡ map slept a ++ slept y ∷ map slept b
-map_parts [] y b = refl
-map_parts (x ∷ a) y b = ap (λ w. slept x ∷ w) (map_parts a y b)
 
 filled : (a : List m.Task) (y : m.Task) (b : List m.Task) → map slept (a ++ y ∷ b) ≡ [] → ⊥
 filled [] y b e = absurd (cc)

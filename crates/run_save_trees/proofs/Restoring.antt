@@ -30,6 +30,7 @@ use Rattle.run_save_shots.specs.Spelling.{rest, who, tasks_from, planted, grown,
 use Rattle.run_save_spelled.specs.Growing.{In, first_in, later_in, Sprouts}
 use Rattle.run_save_spelled.proofs.Growing.{Holds, none_held, part_held, one_held, planted_root, planted_part}
 use Rattle.run_save_spelled.proofs.Sprouting.{Spelled, spelled, some, who_number, all_sprout}
+use Rattle.run_save_spelled.proofs.Forests.{each_append, each_weaker}
 use Rattle.run_save_trees.specs.Puts.{IsKept, Unlike}
 use Rattle.run_save_trees.proofs.Puts.{added_each, unlike_more, root_put, part_put}
 use Rattle.run_save_numbers.specs.Numbers.{numbers}
@@ -40,7 +41,7 @@ use Rattle.run_save_slots.specs.Started.{number_of as wait_number}
 use Rattle.run_save_slots.specs.Slots.{IsMade}
 use Rattle.run_save_trees.specs.declared.tables.Restored.{Restored}
 use Rattle.run_save_trees.specs.Restoring.{waits_of, HasParent, IsPut, WithTask, IsEmpty}
-use Rattle.run_save_trees.proofs.Lists.{nth_old, nth_new, get_old, each_weaker, each_append, each_here, count_between, count_last, later}
+use Rattle.run_save_trees.proofs.Lists.{nth_old, nth_new, get_old, each_here, count_between, count_last, later}
 use Rattle.run_save_trees.proofs.Slots.{HasName, is_kept, is_fine}
 use Rattle.run_save_trees.proofs.Trees.{added_old, added_new, added_last}
 use Rattle.run_save_trees.proofs.Roots.{is_of, is_spawned, same_entry}

@@ -17,8 +17,9 @@ use Rattle.vm_scheduler.specs.Standing.{Tree, given_of, OfEntry, AllUntold, Unto
 use Rattle.run_save_shots.specs.Lists.{EachAt, count}
 use Rattle.run_save_shots.specs.Kept.{KeptTask, Kept}
 use Rattle.run_save_shots.specs.Fitting.{RootFits, TaskFits, is_root, runs_once, HasRoot, Fits}
+use Rattle.run_save_spelled.proofs.Forests.{each_weaker}
 use Rattle.run_save_slots.specs.Slots.{root_of}
-use Rattle.run_save_trees.proofs.Lists.{each_weaker, count_none, count_between}
+use Rattle.run_save_trees.proofs.Lists.{count_none, count_between}
 
 abbrev pub is_of : ℕ → Root → Bool
 is_of entry APart = false

@@ -13,13 +13,14 @@ use Rattle.run_save_shots.specs.Kept.{KeptFrame, KeptRest, leaf, group, KeptTask
 use Rattle.run_save_shots.specs.Fitting.{Stand, calls, sleeps, stays, awaits_task, awaits_event, gathers, goes_on, stand_in, stand_at}
 use Rattle.run_save_shots.specs.Fitting.{RestSuits, FramesSuit as FramesFit, arms_of, TaskFits, Fits}
 use Rattle.run_save_shots.specs.Naming.{number_at, is_begun_since}
+use Rattle.run_save_spelled.proofs.Forests.{each_weaker}
 use Rattle.run_save_numbers.specs.Numbers.{numbers, borns_from, arms_from, Countable}
 use Rattle.run_save_numbers.proofs.Limits.{few}
 use Rattle.run_save_numbers.proofs.Firsts.{first_least, number_more}
 use Rattle.run_save_slots.specs.Stacking.{IsNear}
 use Rattle.run_save_slots.specs.Slots.{Suits}
 use Rattle.run_save_trees.proofs.Groups.{group_of}
-use Rattle.run_save_trees.proofs.Lists.{each_here, each_weaker}
+use Rattle.run_save_trees.proofs.Lists.{each_here}
 
 -- ---- operations
 

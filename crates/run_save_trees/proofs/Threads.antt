@@ -1,23 +1,19 @@
 -- The frames of a task that is kept.
 use Rattle.std.proofs.Common.{◌≡◌, ℕ, true, List, [], ◌∷◌, refl, ◌∙◌}
-use Rattle.verse_code_machine.specs.Tasks.{Frame}
 use Rattle.verse_code_machine.specs.Frames.{free}
 use Rattle.vm_frames.specs.Framed.{Framed}
 use Rattle.vm_frames.specs.Machine.{frames_with, all_free}
+use Rattle.vm_frames.proofs.Whole.{free_below}
 use Rattle.vm_scheduler.specs.Frames.{birth, Suspended}
 use Rattle.run_save_shots.specs.Kept.{KeptFrame}
 use Rattle.run_save_slots.specs.Stacking.{with_frame, behind_top, stacked}
-
-free_same : (fs : List Frame) → free [] [] fs ≡ all_free fs
-free_same [] = refl
-free_same (f ∷ fs) = refl
 
 stacked_free : (arms : ℕ) (borns : List ℕ) (frames : List KeptFrame) (below : List Framed) → all_free (frames_with below []) ≡ true →
     all_free (frames_with (stacked arms borns frames below) []) ≡ true
 stacked_free arms borns [] below e = e
 stacked_free arms [] (f ∷ fs) below e = e
 stacked_free arms (b ∷ bs) (f ∷ fs) below e =
-    stacked_free arms bs fs (with_frame b (behind_top arms fs) f below) (free_same (frames_with below []) ∙ e)
+    stacked_free arms bs fs (with_frame b (behind_top arms fs) f below) (free_below (frames_with below []) ∙ e)
 
 stacked_birth : (arms : ℕ) (borns : List ℕ) (frames : List KeptFrame) (x : Framed) (below : List Framed) →
     birth (stacked arms borns frames (x ∷ below)) ≡ birth (x ∷ below)

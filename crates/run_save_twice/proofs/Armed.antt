@@ -1,9 +1,9 @@
 -- The arms of a group that is kept, and the other children of its task.
-use Rattle.std.proofs.Common.{◌≡◌, ℕ, zero, suc, ◌+◌, ◌<◌, ◌≤◌, Bool, true, false, ◌&&◌, cond, eqb, List, [], ◌∷◌, ◌++◌}
+use Rattle.std.proofs.Common.{◌≡◌, ℕ, zero, suc, ◌+◌, ◌<◌, ◌≤◌, Bool, true, false, cond, eqb, List, [], ◌∷◌, ◌++◌}
 use Rattle.std.proofs.Common.{length}
 use Rattle.std.proofs.Common.{Option, Some, None, refl, sym, ap, subst, ◌∙◌, append_assoc, arith}
 use Rattle.std.proofs.Math.Nat.{mul-suc}
-use Rattle.std.proofs.lemmas.Bool.{eqb-true}
+use Rattle.std.proofs.lemmas.Bool.{eqb-true, and_parts}
 use Rattle.std.proofs.lemmas.List.{length-append}
 use Rattle.task_tree.specs.Tasks.{is_child}
 use Rattle.task_tree.specs.declared.tasks.Role.{Role}
@@ -11,9 +11,9 @@ use Rattle.task_tree.specs.declared.tasks.Role.TheVariants.{Root, Arm, Behind}
 use Rattle.verse_code.specs.declared.codes.Code.{Code}
 use Rattle.verse_value.specs.Val.{Val}
 use Rattle.verse_meaning_state.specs.Waits.{eqn, ltn, nth}
+use Rattle.verse_meaning_state.proofs.Numbers.{eqn_is, ltn_is, ltn_yes}
 use Rattle.verse_code_machine.specs.Tasks.{Part, did, runs}
 use Rattle.verse_code_machine.specs.Ends.{is_run}
-use Rattle.verse_code_machine_parents.proofs.Lists.{eqn_is}
 use Rattle.vm_tasks_laws.specs.Slots.{arms_at, ArmedBy}
 use Rattle.run_save_shots.specs.Lists.{EachAt, count, from}
 use Rattle.run_save_shots.specs.Kept.{KeptFrame, KeptRest, group, KeptTask, Kept}
@@ -24,7 +24,6 @@ use Rattle.run_save_shots.specs.Naming.{number_at, arm_at}
 use Rattle.run_save_shots.specs.Spelling.{gathered, parts_from, rest}
 use Rattle.run_save_fits.specs.Held.{one}
 use Rattle.run_save_kept.specs.Orders.{runs_in}
-use Rattle.run_save_kept.proofs.Paths.{ltn_is}
 use Rattle.run_save_numbers.proofs.Firsts.{number_more}
 use Rattle.run_save_trees.specs.Arms.{above}
 use Rattle.run_save_trees.proofs.Firsts.{each_at_here}
@@ -91,11 +90,6 @@ module _ {A : Type 0} where
   between (x ∷ xs) t ts (z ∷ zs) u us e l =
       let tails : xs ++ t ∷ ts ≡ zs ++ u ∷ us = cc in between xs t ts zs u us tails (omega (arith, l))
 
-both_true : (a b : Bool) → (a && b) ≡ true → (a ≡ true) × (b ≡ true)
-both_true true true e = (refl, refl)
-both_true true false e = absurd (cc)
-both_true false b e = absurd (cc)
-
 -- ---- roles
 
 its_parent : (at : ℕ) (o : Option ℕ) → is_child (Some at) o ≡ true → o ≡ Some at
@@ -103,15 +97,15 @@ its_parent at None e = absurd (cc)
 its_parent at (Some p) e = ap (λ n. Some n) (sym (eqb-true at p e))
 
 arm_parent : (at place : ℕ) (u : KeptTask) → is_arm_of at place u ≡ true → u.parent ≡ Some at
-arm_parent at place u e = its_parent at u.parent (both_true (is_child (Some at) u.parent) _ e).0
+arm_parent at place u e = its_parent at u.parent (and_parts (is_child (Some at) u.parent) _ e).0
 
 arm_role : (at place : ℕ) (parent : Option ℕ) (r : Role) (root : Option ℕ) (fs : List KeptFrame) (q : KeptRest) →
     is_arm_of at place (record { parent = parent; role = r; root = root; frames = fs; rest = q }) ≡ true → r ≡ Arm place
 arm_role at place parent Root root fs q e =
-    let f : false ≡ true = (both_true (is_child (Some at) parent) false e).1 in absurd (cc)
+    let f : false ≡ true = (and_parts (is_child (Some at) parent) false e).1 in absurd (cc)
 arm_role at place parent (Behind d) root fs q e =
-    let f : false ≡ true = (both_true (is_child (Some at) parent) false e).1 in absurd (cc)
-arm_role at place parent (Arm p) root fs q e = ap (λ n. Arm n) (eqb-true p place (both_true (is_child (Some at) parent) (eqb p place) e).1)
+    let f : false ≡ true = (and_parts (is_child (Some at) parent) false e).1 in absurd (cc)
+arm_role at place parent (Arm p) root fs q e = ap (λ n. Arm n) (eqb-true p place (and_parts (is_child (Some at) parent) (eqb p place) e).1)
 
 role_of : (at place : ℕ) (u : KeptTask) → is_arm_of at place u ≡ true → u.role ≡ Arm place
 role_of at place u e = arm_role at place u.parent u.role u.root u.frames u.rest e
@@ -126,11 +120,6 @@ run_some n (runs m ∷ gs) e = by (eqn n m) e (run_some n gs)
     by : (b : Bool) → cond b true (is_run n gs) ≡ true → (is_run n gs ≡ true → 1 ≤ runs_in n gs) → 1 ≤ one b + runs_in n gs
     by true f g = omega arith
     by false f g = let l = g f in omega (arith, l)
-
-pub ltn_yes : (n m : ℕ) → n < m → ltn n m ≡ true
-ltn_yes n zero l = absurd (omega (arith, l))
-ltn_yes zero (suc m) l = refl
-ltn_yes (suc n) (suc m) l = ltn_yes n m (omega (arith, l))
 
 -- whatever operation it stands at
 armed_in : (c : Code) (since n : ℕ) (st : Stand) (gs : List Part) → ArmedBy since (arms_at (gathered c st gs)) n → ltn n since ≡ is_run n gs

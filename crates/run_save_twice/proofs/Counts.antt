@@ -10,6 +10,7 @@ use Rattle.task_tree.specs.declared.tasks.Role.{Role}
 use Rattle.verse_code.specs.declared.codes.Code.{Code}
 use Rattle.verse_meaning_state.specs.State.{Given}
 use Rattle.verse_meaning_state.specs.Waits.{eqn, ltn, nth}
+use Rattle.verse_meaning_state.proofs.Numbers.{eqn_same, eqn_not, ltn_yes, nth_past}
 use Rattle.verse_code_machine.specs.Tasks as m
 use Rattle.verse_code_machine.specs.Tasks.{Frame, Who, root, part, Part, Rest, asleep, group, Task, root_named, child_named}
 use Rattle.run_save_shots.specs.Lists.{Each, EachAt, AreDistinct, count}
@@ -20,10 +21,8 @@ use Rattle.run_save_shots.specs.Fitting.{RestFits}
 use Rattle.run_save_shots.specs.Fitting.{TaskFits, waits_in, is_root, runs_once, HasRoot, frames_in, Fits}
 use Rattle.run_save_shots.specs.Spelling.{gathered, rest}
 use Rattle.run_save_fits.specs.Held.{tasks_sum, one, is_wait, is_task_of, is_main, unfinished}
-use Rattle.run_save_kept.proofs.Paths.{eqn_not}
 use Rattle.run_save_spelled.proofs.Sprouting.{frames_long}
 use Rattle.run_save_twice.proofs.Linked.{IsOf, Along}
-use Rattle.run_save_twice.proofs.Armed.{ltn_yes}
 
 -- ---- sums over the tasks that are kept
 
@@ -113,15 +112,11 @@ occurs_below n next xs d a = by (cases_lt n next)
 
 -- ---- entries
 
-eqn_self : (n : ℕ) → eqn n n ≡ true
-eqn_self zero = refl
-eqn_self (suc n) = eqn_self n
-
 eqn_eqb : (a b : ℕ) → eqn a b ≡ eqb a b
 eqn_eqb a b = by (eqb_tells a b)
   where
     by : ((eqb a b ≡ true) × (a ≡ b)) ⊎ ((eqb a b ≡ false) × (a ≢ b)) → eqn a b ≡ eqb a b
-    by (inl h) = subst (λ d. eqn a d ≡ true) h.1 (eqn_self a) ∙ sym h.0
+    by (inl h) = subst (λ d. eqn a d ≡ true) h.1 (eqn_same a) ∙ sym h.0
     by (inr h) = eqn_not a b h.1 ∙ sym h.0
 
 root_task : (e : ℕ) (o : Option ℕ) → is_task_of e (root o) ≡ one (is_child (Some e) o)
@@ -139,11 +134,6 @@ entry_there P n (x ∷ xs) zero e l = let same : n ≡ n + 0 = omega arith in (x
 entry_there P n (x ∷ xs) (suc i) e l =
     let r = entry_there P (suc n) xs i e.1 (omega (arith, l)) in
     let same : suc n + i ≡ n + suc i = omega arith in (r.0, r.1, subst (λ j. P j r.0) same r.2)
-
-beyond_none : {A : Type 0} (xs : List A) (i : ℕ) → length xs ≤ i → nth xs i ≡ None
-beyond_none [] i l = refl
-beyond_none (x ∷ xs) zero l = absurd (omega (arith, l))
-beyond_none (x ∷ xs) (suc i) l = beyond_none xs i (omega (arith, l))
 
 count_none : (test : KeptTask → Bool) (ts : List KeptTask) → Each (λ t. test t ≡ false) ts → count test ts ≡ 0
 count_none test [] a = refl
@@ -171,7 +161,7 @@ module _ (c : Code) (s : Kept) (fits : Fits c s) where
           let r = entry_there (HasRoot s.tasks) 0 s.spawned e fits.roots l in
           let same : 0 + e ≡ e = omega arith in
           subst (λ j. count (is_root (Some j)) s.tasks ≡ runs_once r.0) same r.2 ∙ (runs r.0 ∙ ap unfinished (sym r.1))
-      by (inr l) = count_none (is_root (Some e)) s.tasks (no_entry e l s.tasks fits.tasks) ∙ ap unfinished (sym (beyond_none s.spawned e l))
+      by (inr l) = count_none (is_root (Some e)) s.tasks (no_entry e l s.tasks fits.tasks) ∙ ap unfinished (sym (nth_past s.spawned e l))
 
 -- ---- of the tasks that are spelled
 

@@ -1,11 +1,12 @@
 -- The tasks that a fitting shot spells hold what the tasks of a run do between two turns.
-use Rattle.std.proofs.Common.{◌≡◌, ℕ, zero, suc, ◌+◌, ◌<◌, ◌≤◌, ◌⊎◌, inl, inr, List, [], ◌∷◌, ◌++◌, length, Option, Some}
+use Rattle.std.proofs.Common.{◌≡◌, ℕ, zero, suc, ◌+◌, ◌≤◌, ◌⊎◌, inl, inr, List, [], ◌∷◌, ◌++◌, length, Option, Some}
 use Rattle.std.proofs.Common.{None}
 use Rattle.std.proofs.Common.{refl, sym, ap, subst, ◌∙◌, arith}
 use Rattle.verse_code.specs.declared.codes.Code.{Code}
 use Rattle.verse_code.specs.Validity.{Valid}
 use Rattle.verse_value.specs.Val.{Val}
-use Rattle.verse_meaning_state.specs.Waits.{Cause, till, never, done, heard, nth}
+use Rattle.verse_meaning_state.specs.Waits.{Cause, till, never, done, heard}
+use Rattle.verse_meaning_state.proofs.Numbers.{nth_within}
 use Rattle.verse_code_machine.specs.Tasks.{Frame, group, Task}
 use Rattle.verse_code_machine.specs.Ends.{all_did, first_did}
 use Rattle.verse_code_machine.specs.Frames.{behind}
@@ -143,16 +144,11 @@ module _ (c : Code) (s : Kept) where
   suits_any (gathers i j p) n m q h = absurd h
   suits_any goes_on n m q h = absurd h
 
-  within : {A : Type 0} (xs : List A) (i : ℕ) (x : A) → nth xs i ≡ Some x → i < length xs
-  within [] i x e = absurd (cc)
-  within (y ∷ xs) zero x e = omega arith
-  within (y ∷ xs) (suc i) x e = let l = within xs i x e in omega (arith, l)
-
   cause_fine : (before : List KeptTask) (t : KeptTask) (ts : List KeptTask) (number : ℕ) (q : Cause) → s.tasks ≡ before ++ t ∷ ts →
       t.rest ≡ k.leaf number q → CauseFits s q → CauseFine c (scene s) q
   cause_fine before t ts number (till moment) all e f = f.1
   cause_fine before t ts number never all e f = tt
-  cause_fine before t ts number (done entry) all e f = within s.spawned entry None f
+  cause_fine before t ts number (done entry) all e f = nth_within s.spawned entry None f
   cause_fine before t ts number (heard event) all e f =
       subst (λ xs. Has event (events_in xs)) (sym all) (has_event before t ts number event e)
 

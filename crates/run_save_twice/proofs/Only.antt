@@ -4,7 +4,7 @@ use Rattle.verse_code_machine.specs.Tasks.{Task}
 use Rattle.verse_code_machine.specs.Runs.{Forest}
 use Rattle.run_save_shots.specs.Lists.{Each}
 use Rattle.run_save_fits.specs.Held.{tasks_sum, trees_sum}
-use Rattle.run_save_kept.proofs.Sums.{tasks_join}
+use Rattle.run_save_fits.proofs.KeptAll.{tasks_join}
 use Rattle.run_save_spelled.specs.Growing.{number_of, flat, In, first_in, later_in}
 use Rattle.run_save_spelled.proofs.Forests.{AllApart, each_in, each_parts, in_left, in_right}
 

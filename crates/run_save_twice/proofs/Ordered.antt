@@ -5,10 +5,11 @@ use Rattle.std.proofs.Common.{refl, sym, ap, subst, ◌∙◌, append_assoc, ari
 use Rattle.verse_code.specs.declared.codes.Code.{Code}
 use Rattle.verse_value.specs.Val.{Val}
 use Rattle.verse_meaning_state.specs.Waits.{eqn, ltn, nth}
+use Rattle.verse_meaning_state.proofs.Numbers.{eqn_is, ltn_yes}
 use Rattle.verse_code_machine.specs.Tasks.{Who, Part, Task, same_path}
 use Rattle.verse_code_machine.specs.Ends.{is_run}
 use Rattle.verse_code_machine.specs.Runs.{Forest}
-use Rattle.verse_code_machine_parents.proofs.Lists.{eqn_is}
+use Rattle.verse_code_machine.proofs.Paths.{same_is}
 use Rattle.run_save_shots.specs.Lists.{Each, EachAt, count}
 use Rattle.run_save_shots.specs.Kept as k
 use Rattle.run_save_shots.specs.Kept.{KeptRest, KeptTask, Kept}
@@ -17,9 +18,10 @@ use Rattle.run_save_shots.specs.Fitting.{Fits}
 use Rattle.run_save_shots.specs.Spelling.{gathered, parts_from, rest, tasks_from, trees}
 use Rattle.run_save_fits.specs.Held.{IsSome, WhoIs, tasks_sum, trees_sum, one}
 use Rattle.run_save_fits.proofs.Holding.{role_some}
+use Rattle.run_save_fits.proofs.Counted.{one_most}
 use Rattle.run_save_kept.specs.Orders.{Orderly, in_group, skips, awaits, is_named, weight, last}
 use Rattle.run_save_kept.specs.Orders.{arms_of as arms_for}
-use Rattle.run_save_kept.proofs.Paths.{same_is, is_same, one_most, end_is, last_end}
+use Rattle.run_save_kept.proofs.Paths.{is_same, end_is, last_end}
 use Rattle.run_save_kept.proofs.Sums.{sums_most}
 use Rattle.run_save_apart.specs.Numbers.{NumbersApart, numbered}
 use Rattle.run_save_trees.proofs.Firsts.{each_at_here}
@@ -32,7 +34,7 @@ use Rattle.run_save_twice.proofs.Only.{head_or, none_in, each_all, each_trees, i
 use Rattle.run_save_twice.proofs.Only.{some_of, at_least}
 use Rattle.run_save_twice.proofs.Only.{Weighs}
 use Rattle.run_save_twice.proofs.Planted.{HasKin, kin_root, kin_part, Planted, none_planted, all_planted}
-use Rattle.run_save_twice.proofs.Armed.{ltn_yes, ChildOf, between, once, arm_is_child, later_is_arm}
+use Rattle.run_save_twice.proofs.Armed.{ChildOf, between, once, arm_is_child, later_is_arm}
 
 -- ---- the list turned round
 

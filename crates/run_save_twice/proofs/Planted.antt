@@ -2,8 +2,10 @@
 use Rattle.std.proofs.Common.{◌≡◌, ℕ, suc, ◌<◌, ◌≤◌, Bool, true, false, cond, List, [], ◌∷◌, ◌++◌, map, Option, refl, sym, ap, subst}
 use Rattle.std.proofs.Common.{◌∙◌}
 use Rattle.std.proofs.Common.{arith, ◌⊎◌, inl, inr}
+use Rattle.verse_base.proofs.Facts.{clash}
 use Rattle.verse_code_machine.specs.Tasks.{Task, Who, part, root_named, child_named, same_path}
 use Rattle.verse_code_machine.specs.Runs.{Forest}
+use Rattle.verse_code_machine.proofs.Paths.{same_is, same_self}
 use Rattle.verse_code_machine_parents.specs.Parents.{whos, HasParent, here, later, Rooted, rooted_no, rooted_root, rooted_part}
 use Rattle.run_save_shots.specs.Lists.{Each}
 use Rattle.run_save_shots.specs.Spelling.{before_parent, planted, grown}
@@ -11,7 +13,7 @@ use Rattle.run_save_fits.specs.Held.{IsSome, WhoIs}
 use Rattle.run_save_fits.proofs.Holding.{role_some, child_who}
 use Rattle.run_save_fits.proofs.KeptTasks.{each_map}
 use Rattle.run_save_kept.specs.Orders.{Before, NoneBelow, first, StandsBefore, Lined}
-use Rattle.run_save_kept.proofs.Paths.{same_is, same_self, clash, below_less, below_end, child_before, before_child, child_behind}
+use Rattle.run_save_kept.proofs.Paths.{below_less, below_end, child_before, before_child, child_behind}
 use Rattle.run_save_kept.proofs.Lines.{lined_less}
 use Rattle.run_save_spelled.specs.Growing.{number_of, path_of, flat, In, first_in, later_in, Begins, begins_root, begins_part, Sprouts}
 use Rattle.run_save_spelled.proofs.Forests.{each_append, each_weaker, each_in, reordered_each}

@@ -4,6 +4,7 @@ use Rattle.std.proofs.Common.{length, map, get_or, replicate, Option, Some, None
 use Rattle.std.proofs.lemmas.Bool.{ltb-true, ltb-false, le-leb, lt-leb, eqb-true, eqb-false, eq-eqb, ne_eqb}
 use Rattle.std.proofs.lemmas.List.{get_or-replicate, get_or-map, length-set, length-map, length-replicate}
 use Rattle.std.specs.Prelude.{nat_le}
+use Rattle.std.proofs.Math.Bool.{or-false}
 use Rattle.task_tree.specs.declared.tasks.Role.{Role}
 use Rattle.task_tree.specs.declared.tasks.Role.TheVariants.{Root, Arm, Behind}
 use Rattle.verse_code.specs.declared.codes.Code.{Code}
@@ -198,10 +199,6 @@ arms_decided ts at counts arms n (v ∷ vs) long h =
     arms_decided ts at counts arms (suc n) vs (omega (arith, long)) h in
     rw (same, rest) refl
 
-or_nothing : (b : Bool) → (b || false) ≡ b
-or_nothing true = refl
-or_nothing false = refl
-
 rest_with : (c : Code) (ts : List KeptTask) (at : ℕ) (t : KeptTask) (r : KeptRest) →
     wrong_rest (task_stand c t) (after at ts (replicate (length (arms_of r)) 0, false)) r ≡ rest_breaks c ts at t r
 rest_with c ts at t (leaf number cause) = refl
@@ -212,7 +209,7 @@ rest_with c ts at t (group arms) =
     (λ place lt. counts_at at place ts (replicate (length arms) 0, false) (omega (arith, l, lt)) ∙
     ap (mores (count (is_arm_of at place) ts)) (get_or-replicate (length arms) place 0 0 lt)) in
     let two : (after at ts (replicate (length arms) 0, false)).1 ≡ any (is_beyond at (length arms)) ts =
-    beyond_at at ts (replicate (length arms) 0, false) ∙ or_nothing _ ∙ ap (λ n. any (is_beyond at n) ts) l in
+    beyond_at at ts (replicate (length arms) 0, false) ∙ or-false _ ∙ ap (λ n. any (is_beyond at n) ts) l in
     rw (one, two) refl
 
 -- the marks of the task at a place

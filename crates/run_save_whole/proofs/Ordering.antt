@@ -4,6 +4,7 @@ use Rattle.std.proofs.Common.{length, get_or, replicate, Option, Some, None, ref
 use Rattle.std.proofs.lemmas.Bool.{ltb-true, ltb-false, lt-ltb, le-ltb, leb-true, leb-false, eqb-true}
 use Rattle.std.proofs.lemmas.List.{get_or-replicate, length-set, length-replicate, length-append, append_assoc}
 use Rattle.std.specs.Prelude.{nat_le, nat_lt, if◌then◌else◌}
+use Rattle.std.proofs.Math.Bool.{or-false}
 use Rattle.task_tree.specs.declared.tasks.Role.{Role}
 use Rattle.task_tree.specs.declared.tasks.Role.TheVariants.{Root, Arm, Behind}
 use Rattle.verse_code.specs.declared.codes.Code.{Code}
@@ -112,10 +113,6 @@ none_orphan : (role : Role) (ts : List KeptTask) → any (is_disordered None rol
 none_orphan role [] = refl
 none_orphan role (t ∷ ts) = none_orphan role ts
 
-or_nothing : (b : Bool) → (b || false) ≡ b
-or_nothing true = refl
-or_nothing false = refl
-
 follows_root : (p : ℕ) (t : KeptTask) → is_disordered (Some p) Root t ≡ false
 follows_root p t = of t.role refl
   where
@@ -153,7 +150,7 @@ low_decided ts n (Some p) (Behind d) e long le =
     lower p d ts (replicate long open_floor) (omega (arith, l, leb-false n p e, le)) ∙
     ap (λ g. any (is_disordered (Some p) (Behind d)) ts || is_under g d) f ∙
     ap (λ b. any (is_disordered (Some p) (Behind d)) ts || b) (le-ltb d 0 (omega arith)) ∙
-    or_nothing (any (is_disordered (Some p) (Behind d)) ts)
+    or-false (any (is_disordered (Some p) (Behind d)) ts)
 
 in_turn : (later main child low disordered rest frames : Bool) → (later ≡ false → low ≡ disordered) →
     (later || main || child || low || rest || frames) ≡ (later || main || child || disordered || rest || frames)
@@ -180,7 +177,7 @@ module _ (c : Code) (spent : ℕ) (ts : List KeptTask) where
       there (x ∷ xs) = there xs
 
   any_last : (test : KeptTask → Bool) (xs : List KeptTask) (t : KeptTask) → any test (xs ++ t ∷ []) ≡ (any test xs || test t)
-  any_last test [] t = or_nothing (test t)
+  any_last test [] t = or-false (test t)
   any_last test (x ∷ xs) t = ap (λ b. test x || b) (any_last test xs t) ∙ sym (joined (test x) (any test xs) (test t))
     where
       joined : (a b d : Bool) → ((a || b) || d) ≡ (a || (b || d))

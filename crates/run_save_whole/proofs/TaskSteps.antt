@@ -1,14 +1,15 @@
 -- Steps of the search for the first task that breaks a rule.
-use Rattle.std.proofs.Common.{◌≡◌, ℕ, suc, ◌+◌, ◌<◌, ◌≤◌, Bool, true, false, ◌||◌, List, [], ◌∷◌, length, map, set, get_or, drop, replicate}
+use Rattle.std.proofs.Common.{◌≡◌, ℕ, suc, ◌+◌, ◌<◌, ◌≤◌, Bool, true, false, ◌||◌, List, [], length, map, set, get_or, drop, replicate}
 use Rattle.std.proofs.Common.{Option, Some, None, refl, sym, ap, ◌∙◌, arith}
 use Rattle.std.proofs.lemmas.Bool.{or_parts, ltb-false}
-use Rattle.std.proofs.lemmas.List.{get_or-map, length-map, map-set, drop_more}
+use Rattle.std.proofs.lemmas.List.{get_or-map, length-map, map-set}
 use Rattle.task_tree.specs.declared.tasks.Role.TheVariants.{Arm}
 use Rattle.verse_code.specs.declared.codes.Code.{Code}
 use Rattle.run_save_shots.specs.declared.shots.TaskShot.{TaskShot}
 use Rattle.run_save_shots.specs.View.{task_of}
 use Rattle.run_save_shots.specs.Kept.{KeptTask}
 use Rattle.run_save_shots.specs.Fitting.{arms_of, is_root}
+use Rattle.run_save_shots.proofs.Steps.{front}
 use Rattle.run_save_format.specs.Whole.{broken_task}
 use Rattle.run_save_whole.specs.declared.arms.Arms.{Arms}
 use Rattle.run_save_whole.specs.declared.order.Floor.{Floor}
@@ -47,10 +48,6 @@ counts_long all tasks i a t e lt is it =
     (get_or-map task_of tasks i t (task_of t) lt ∙ ap task_of (sym it))
 
 -- ---- one task more
-
-front : (tasks : List TaskShot) (i : ℕ) (t : TaskShot) → i < length tasks → t ≡ get_or tasks i t →
-    map task_of (drop i tasks) ≡ task_of t ∷ map task_of (drop (i + 1) tasks)
-front tasks i t lt it = ap (map task_of) (drop_more tasks i t lt) ∙ ap (λ u. task_of u ∷ map task_of (drop (i + 1) tasks)) (sym it)
 
 module _ (c : Code) (spent : ℕ) (all : List Arms) (tasks : List TaskShot) where
   -- the search from a place on

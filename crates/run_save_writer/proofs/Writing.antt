@@ -1,13 +1,10 @@
 -- Writing one list after another.
-use Rattle.std.proofs.Common.{◌≡◌, ℕ, suc, List, [], ◌∷◌, length, map, refl, ap, subst}
+use Rattle.std.proofs.Common.{ℕ, List, [], ◌∷◌, length, map, subst}
+use Rattle.verse_base.proofs.Facts.{as_long}
 use Rattle.verse_image.specs.Format.{Field, each}
 use Rattle.verse_image.specs.Writing.{Writes}
 use Rattle.verse_image.proofs.WritingLemmas.{writes_then, writes_as}
 use Rattle.run_save_format.specs.Format.{wide, list}
-
-pub as_long : {A B : Type 0} (view : A → B) (xs : List A) → length xs ≡ length (map view xs)
-as_long view [] = refl
-as_long view (x ∷ xs) = ap suc (as_long view xs)
 
 pub each_seen : {A B : Type 0} (f : B → Field) (view : A → B) (xs : List A) (bytes rest : List ℕ) →
     each (λ x. f (view x)) xs bytes rest → each f (map view xs) bytes rest

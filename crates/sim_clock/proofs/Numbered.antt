@@ -1,5 +1,5 @@
 -- Waits kept under their numbers, as a list and by look-ups.
-use Rattle.std.proofs.Common.{◌≡◌, ℕ, eqb, ◌<◌, ◌⊎◌, inl, inr, Bool, true, false, cond, if◌then◌else◌, List, [], ◌∷◌, ◌++◌, Some, None}
+use Rattle.std.proofs.Common.{◌≡◌, ℕ, eqb, ◌<◌, inl, inr, Bool, true, false, cond, if◌then◌else◌, List, [], ◌∷◌, ◌++◌, Some, None}
 use Rattle.std.proofs.Common.{refl, sym, ap, subst, ◌∙◌, arith}
 use mathlib.Core.Bool.{false≢true}
 use Rattle.std.specs.Cmp.{nat_cmp_is}
@@ -8,6 +8,7 @@ use Rattle.std.specs.declared.cmp.Ordering.TheVariants.{Greater}
 use Rattle.std.specs.BTreeMap.{is_at, insert_entry}
 use Rattle.std.specs.Map.{lookup, remove_entry, values_of}
 use Rattle.std.proofs.lemmas.Option.{none-some, same_Some}
+use Rattle.std.proofs.lemmas.Bool.{cases_Bool}
 use Rattle.sim_clock.specs.declared.waits.WaitKind.{WaitKind}
 use Rattle.sim_clock.specs.declared.waits.WaitKind.TheVariants.{At, Never, Task, Event}
 use Rattle.sim_clock.specs.declared.waits.Pending.{Pending}
@@ -63,15 +64,11 @@ kept_removed (e ∷ es) test kept = either (test e.0) (kept_removed es test kept
     either true rest = kept.2
     either false rest = (kept.0, kept.1, rest)
 
-pub cases_of : (b : Bool) → (b ≡ true) ⊎ (b ≡ false)
-cases_of true = inl refl
-cases_of false = inr refl
-
 -- a wait that is found is kept
 pub kept_found : (es : List (ℕ × Pending)) (test : ℕ → Bool) (p : Pending) → AllKept es → lookup test es ≡ Some p →
     (test p.wait.number ≡ true) × IsGiven p.wait.kind p.wake
 kept_found [] test p kept found = absurd (none-some p found)
-kept_found (e ∷ es) test p kept found = elim (cases_of (test e.0)) [
+kept_found (e ∷ es) test p kept found = elim (cases_Bool (test e.0)) [
   | inl here ↦
       let same : e.1 ≡ p = same_Some _ _ (rw here at found) in
       let number : e.0 ≡ p.wait.number = sym kept.0 ∙ ap (λ (q : Pending). q.wait.number) same in

@@ -9,6 +9,7 @@ use Rattle.std.proofs.lemmas.Bool.Decides.{nat_tests}
 use Rattle.std.proofs.lemmas.Cmp.{nat_cmp_total}
 use Rattle.std.proofs.lemmas.Map.Entries.{btree_map_get_place, place_from_lookup}
 use Rattle.std.proofs.lemmas.Option.{none-some, same_Some}
+use Rattle.std.proofs.lemmas.Bool.{cases_Bool}
 use Rattle.sim_clock.specs.declared.waits.WaitKind.{WaitKind}
 use Rattle.sim_clock.specs.declared.waits.WaitKind.TheVariants.{At, Never, Task, Event}
 use Rattle.sim_clock.specs.declared.waits.Wait.{Wait}
@@ -23,7 +24,7 @@ use Rattle.sim_clock.specs.Marked.{IsLeast, comes_first}
 use Rattle.sim_clock.specs.IndexView.{holds}
 use Rattle.sim_clock.specs.Indexed.{IsIndexed, IsGiven, at_number, stands_at}
 use Rattle.sim_clock.proofs.Pair.{number_tied}
-use Rattle.sim_clock.proofs.Numbered.{kept_found, cases_of}
+use Rattle.sim_clock.proofs.Numbered.{kept_found}
 use Rattle.sim_clock.proofs.First.{ComesAfter, first_due_is, none_due}
 
 -- the moment of one wait
@@ -122,7 +123,7 @@ module _ (m : BTreeMap ℕ Pending) (i : Index) (indexed : IsIndexed m i) where
         let there = moment_is wake.at q.wait.number q other ∙ has_its_moment q.wait.kind q.wake wake (given_is q.wait.number q other) is in
         let not_before = least.least wake.at q.wait.number there in
         let mine = number_is n p found in
-        elim (cases_of (comes_first at n wake.at q.wait.number)) [
+        elim (cases_Bool (comes_first at n wake.at q.wait.number)) [
           | inl before ↦ inl (rw (the_wake.2, mine) before)
           | inr tied ↦
               let same : q.wait.number ≡ n = grind (arith, nat_tests, not_before, tied) in

@@ -9,6 +9,7 @@ use Rattle.std.proofs.lemmas.Bool.Decides.{nat_tests}
 use Rattle.std.proofs.lemmas.Cmp.{nat_cmp_total}
 use Rattle.std.proofs.lemmas.Map.Entries.{btree_map_get_place}
 use Rattle.std.proofs.lemmas.Option.{same_Some}
+use Rattle.std.proofs.lemmas.Bool.{cases_Bool}
 use Rattle.sim_clock.specs.declared.waits.WaitKind.{WaitKind}
 use Rattle.sim_clock.specs.declared.waits.WaitKind.TheVariants.{At, Never, Task, Event}
 use Rattle.sim_clock.specs.declared.waits.Wait.{Wait}
@@ -22,7 +23,6 @@ use Rattle.sim_clock.specs.Places.{place_of, where_of, same_place, kind_at, IsAs
 use Rattle.sim_clock.specs.Indexed.{IsIndexed, AllKept, IsGiven, Changed, at_number, stands_at, stirred}
 use Rattle.sim_clock.specs.IndexView.{holds}
 use Rattle.sim_clock.proofs.Placed.{asleep_is, moving}
-use Rattle.sim_clock.proofs.Numbered.{cases_of}
 
 -- what waits for this, and is woken
 
@@ -86,7 +86,7 @@ other_parts Nowhere number task kind o wake h other = absurd h
 pub woken_set : (kind : WaitKind) (wake : Wake) (es : List (ℕ × Pending)) (test : ℕ → Bool) (p q : Pending) → lookup test es ≡ Some p →
     woken_one kind wake q ≡ woken_one kind wake p → woken kind wake (values_of (set_value test es q)) ≡ woken kind wake (values_of es)
 woken_set kind wake [] test p q found same = refl
-woken_set kind wake (e ∷ es) test p q found same = elim (cases_of (test e.0)) [
+woken_set kind wake (e ∷ es) test p q found same = elim (cases_Bool (test e.0)) [
   | inl here ↦ rw here (ap (λ x. x ∷ woken kind wake (values_of es))
       (same ∙ ap (woken_one kind wake) (sym (same_Some e.1 p (rw here at found)))))
   | inr there ↦ rw there (ap (λ ps. woken_one kind wake e.1 ∷ ps) (woken_set kind wake es test p q (rw there at found) same))
@@ -95,7 +95,7 @@ woken_set kind wake (e ∷ es) test p q found same = elim (cases_of (test e.0)) 
 pub kept_set : (es : List (ℕ × Pending)) (test : ℕ → Bool) (p : Pending) (wake : Wake) → AllKept es → lookup test es ≡ Some p →
     IsAsleep (where_of p) → AllKept (set_value test es (stirred p wake))
 kept_set [] test p wake kept found asleep = tt
-kept_set (e ∷ es) test p wake kept found asleep = elim (cases_of (test e.0)) [
+kept_set (e ∷ es) test p wake kept found asleep = elim (cases_Bool (test e.0)) [
   | inl here ↦ rw here (
     ap (λ (q : Pending). q.wait.number) (sym (same_Some e.1 p (rw here at found))) ∙ kept.0,
     stirred_given p wake asleep,

@@ -5,6 +5,7 @@ use Rattle.std.proofs.lemmas.List.{map-append}
 use Rattle.verse_base.specs.declared.refusals.Refusal.{Refusal}
 use Rattle.verse_accept.specs.Stages.{Stage, makes_each, refuses_first}
 use Rattle.verse_base.specs.declared.limits.TheConstants.{MOST_FILE_BYTES}
+use Rattle.verse_base.proofs.Facts.{length_more}
 use Rattle.verse_lex.specs.Cut.{first_place}
 use Rattle.verse_accept.specs.Fronts.{sized, refusal}
 use Rattle.verse_accept.specs.Ready.{Each, IsSmall}
@@ -33,10 +34,6 @@ module _ {A B : Type 0} (s : ℕ → Stage A B) where
 pub each_more : {A : Type 0} (P : A → Type 0) (as1 : List A) (a : A) → Each P as1 → P a → Each P (as1 ++ a ∷ [])
 each_more P [] a x y = (y, tt)
 each_more P (b ∷ bs) a x y = (x.0, each_more P bs a x.1 y)
-
-length_more : {A : Type 0} (as1 : List A) (a : A) → length (as1 ++ a ∷ []) ≡ suc (length as1)
-length_more [] a = refl
-length_more (b ∷ bs) a = ap suc (length_more bs a)
 
 module _ {A B : Type 0} (s : ℕ → Stage A B) (P : A → Type 0) (Q : B → Type 0) where
   -- where a loop stands: at a file of a number, with what is left and what was made

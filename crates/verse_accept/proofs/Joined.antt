@@ -1,17 +1,13 @@
 -- The items of all files joined.
-use Rattle.std.proofs.Common.{◌≡◌, ℕ, ◌+◌, ◌*◌, ◌<◌, ◌≤◌, List, [], ◌∷◌, ◌++◌, length, map, refl, sym, ap, ◌∙◌, arith}
+use Rattle.std.proofs.Common.{◌≡◌, ℕ, ◌*◌, ◌<◌, ◌≤◌, List, [], ◌∷◌, ◌++◌, length, map, refl, sym, ap, ◌∙◌, arith}
 use Rattle.std.specs.List.{flat_map}
 use Rattle.verse_base.specs.declared.limits.TheConstants.{MOST_FILE_BYTES}
 use Rattle.verse_tree.specs.declared.items.Item.{Item}
-use Rattle.verse_tree.specs.ItemTree.{ItemTree}
 use Rattle.verse_tree.specs.Numbering.{item_nodes, items_nodes, program_nodes}
+use Rattle.verse_tree.proofs.Order.{both_nodes}
 use Rattle.verse_join.specs.Joining.{file_items, joined}
 use Rattle.verse_accept.specs.Fronts.{all_items}
 use Rattle.verse_accept.specs.Ready.{Each, HasFewNodes}
-
-both_nodes : (is js : List ItemTree) → items_nodes (is ++ js) ≡ items_nodes is + items_nodes js
-both_nodes [] js = omega arith
-both_nodes (i ∷ is) js = let rest = both_nodes is js in omega arith
 
 -- files of few nodes have few nodes together
 few_each : (files : List (List Item)) → Each HasFewNodes (map file_items files) →

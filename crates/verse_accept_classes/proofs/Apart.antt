@@ -2,7 +2,9 @@
 use Rattle.std.proofs.Common.{◌≡◌, ℕ, zero, suc, ◌+◌, ◌<◌, Bool, true, false, cond, bytes_eq, List, [], ◌∷◌, map, length}
 use Rattle.std.proofs.Common.{Option, refl, sym, ap, ◌∙◌, subst, arith}
 use Rattle.std.proofs.lemmas.Slice.Eq.{bytes_eq-Decides}
-use Rattle.std.specs.Prelude.{Some, None, slice_get, is_some, ◌||◌}
+use Rattle.std.specs.Prelude.{Some, None, slice_get, is_some}
+use Rattle.std.proofs.lemmas.Bool.{false_from_ne_true, or_parts}
+use Rattle.verse_base.proofs.Facts.{none_is}
 use Rattle.verse_tree.specs.Tree.{Bytes}
 use Rattle.verse_tree.specs.ItemTree.{FieldTree, MemberTree, field, method, ItemTree, using, enumeration, class, function}
 use Rattle.verse_rules_least.specs.Least.{Holds, other}
@@ -19,20 +21,21 @@ use Rattle.verse_names_items.specs.Nodes.{ItemsBreak}
 use Rattle.verse_names_items.specs.Tables.{note_members}
 use Rattle.verse_meaning.specs.Programs.{classes}
 use Rattle.verse_meaning.specs.Programs as programs
+use Rattle.verse_meaning.proofs.Names.{test_itself}
 use Rattle.verse_accept_scopes.specs.Lists.{Each}
 use Rattle.verse_accept_scopes.proofs.Rows.{each_first, each_rest}
 use Rattle.verse_accept_classes.proofs.Circles.{Kept, program_kept, holds_here, no_circle}
 use Rattle.verse_accept_classes.proofs.Parents.{parents_within}
 use Rattle.verse_accept_classes.proofs.Lines.{ends, NoCircle, all_end}
 use Rattle.verse_accept_classes.proofs.Ancestors.{line_is, above_is, ends_parent}
-use Rattle.verse_accept_classes.proofs.Fields.{field_trees, find, look_fields, find_none, same_itself, Differ, AllDiffer, Apart}
+use Rattle.verse_accept_classes.proofs.Fields.{field_trees, find, look_fields, find_none, Differ, AllDiffer, Apart}
 use Rattle.verse_accept_classes.proofs.Fields.{all_both}
 use Rattle.verse_accept_classes.proofs.Fields.{class_fields}
 
 -- ---- rolls of names
 
 look_put_same : (x : Bytes) (v : Bool) (r : Roll) → look x (put x v r) ≡ Some v
-look_put_same x v [] = ap (λ b. cond b (Some v) None) (same_itself x)
+look_put_same x v [] = ap (λ b. cond b (Some v) None) (test_itself x)
 look_put_same x v (e ∷ r) = by (bytes_eq x e.0) refl (look_put_same x v r)
   where
     by : (b : Bool) → bytes_eq x e.0 ≡ b → look x (put x v r) ≡ Some v → look x (cond b ((e.0, v) ∷ r) (e ∷ put x v r)) ≡ Some v
@@ -85,18 +88,6 @@ once x (y ∷ ns) r v h g = by (bytes_eq x y) refl (λ w q. once x ns (called y 
 
 -- ---- what the rules leave of the members of a class
 
-or_false : (a b : Bool) → (a || b) ≡ false → (a ≡ false) × (b ≡ false)
-or_false true b h = cc
-or_false false b h = (refl, h)
-
-none_is : {A : Type 0} (o : Option A) → is_some o ≡ false → o ≡ None
-none_is None h = refl
-none_is (Some x) h = cc
-
-not_true : (b : Bool) → (b ≡ true → ⊥) → b ≡ false
-not_true true h = absurd (h refl)
-not_true false h = refl
-
 module _ (k : Known) where
   -- its name is that of no other member, nor of a field above
   record Free (h : Home) (d : FieldTree) : Type 0 where
@@ -110,10 +101,10 @@ module _ (k : Known) where
 
   field_free : (h : Home) (d : FieldTree) → ((c : ℕ) → Holds (rules_at k (rules.field h d)) c → ⊥) → Free h d
   field_free h d quiet =
-      let kept : is_field_defined k h d.name ≡ false = not_true (is_field_defined k h d.name) (λ e. quiet 40 (holds_here e)) in
-      let first = or_false (is_taken k d.name) _ kept in
-      let second = or_false (is_repeated d.name h.own) _ first.1 in
-      let third = or_false (is_some (look d.name h.above.fields)) _ second.1 in
+      let kept : is_field_defined k h d.name ≡ false = false_from_ne_true (is_field_defined k h d.name) (λ e. quiet 40 (holds_here e)) in
+      let first = or_parts (is_taken k d.name) _ kept in
+      let second = or_parts (is_repeated d.name h.own) _ first.1 in
+      let third = or_parts (is_some (look d.name h.above.fields)) _ second.1 in
       record { once = second.0; new = none_is (look d.name h.above.fields) third.0 }
 
   members_free : (h : Home) (n : ℕ) (ms : List MemberTree) → Each (Kept k) (members_declared h n ms) → AllFree h ms

@@ -13,7 +13,7 @@ use Rattle.verse_meaning.specs.Programs as programs
 use Rattle.verse_meaning.specs.Programs.{fields_from}
 use Rattle.verse_meaning_state.specs.Waits.{nth}
 use Rattle.verse_accept_scopes.specs.Lists.{Each}
-use Rattle.verse_accept_scopes.specs.Sites.{Site}
+use Rattle.verse_accept_scopes.specs.Sites.{Site, member_site}
 use Rattle.verse_accept_scopes.specs.Holding.{OnField, OnMembers, OnItems}
 use Rattle.verse_accept_scopes.proofs.Rows.{each_joined}
 use Rattle.verse_accept_rows.specs.Found.{Found}
@@ -24,12 +24,13 @@ use Rattle.verse_accept_classes.proofs.Circles.{no_circle}
 use Rattle.verse_accept_classes.proofs.Fields.{field_trees, class_fields, fields_agree}
 
 module _ (P : Site → Type 0) (k : Known) where
+  -- at the nodes of a field, and at its own
   abbrev OnOne : FieldTree → Type 0
-  OnOne d = OnField P (outside k) [] d
+  OnOne d = OnField P (outside k) [] d × P (member_site (outside k) [] (field d))
 
   own_on : (w : World) (ms : List MemberTree) → OnMembers P (outside k) w [] ms → Each OnOne (programs.own_fields ms)
   own_on w [] h = tt
-  own_on w (field d ∷ ms) h = (h.0.0, own_on w ms h.1)
+  own_on w (field d ∷ ms) h = (h.0, own_on w ms h.1)
   own_on w (method f ∷ ms) h = own_on w ms h.1
 
   -- at the fields of each class
@@ -63,15 +64,22 @@ pub bodies_found : BodiesFound
 bodies_found is shaped numbered sound g o e =
     on_owned (Found is) (known is) (known is).items (items_found is shaped numbered sound) g o e
 
--- what holds on the items holds on each field of a class
-pub fields_on : (P : Site → Type 0) (is : List ItemTree) → ((m r : ℕ) → ItemsBreak is m r → ⊥) →
-    OnItems P (known is) [] (known is).items → (c i : ℕ) (d : FieldTree) →
-    slice_get (fields_from (length (programs.classes is)) (programs.classes is) (nth (programs.classes is) c)) i ≡ Some d →
-    OnField P (outside (known is)) [] d
-fields_on P is quiet h c i d e =
-    let k = known is in
-    let own = ap (λ l. slice_get l i) (fields_agree is (no_circle is quiet) c) ∙ e in
-    one_on P k (class_fields is c) i d (trees_on P k k.notes (line_of k.outline c) (notes_on P k is no_counts h)) own
+module _ (P : Site → Type 0) (is : List ItemTree) (quiet : (m r : ℕ) → ItemsBreak is m r → ⊥)
+    (h : OnItems P (known is) [] (known is).items) (c i : ℕ) (d : FieldTree)
+    (e : slice_get (fields_from (length (programs.classes is)) (programs.classes is) (nth (programs.classes is) c)) i ≡ Some d) where
+  field_on : OnOne P (known is) d
+  field_on =
+      let k = known is in
+      let own = ap (λ l. slice_get l i) (fields_agree is (no_circle is quiet) c) ∙ e in
+      one_on P k (class_fields is c) i d (trees_on P k k.notes (line_of k.outline c) (notes_on P k is no_counts h)) own
+
+  -- what holds on the items holds on each field of a class
+  pub fields_on : OnField P (outside (known is)) [] d
+  fields_on = field_on.0
+
+  -- and at its own node
+  pub at_fields : P (member_site (outside (known is)) [] (field d))
+  at_fields = field_on.1
 
 pub fields_found : FieldsFound
 fields_found is shaped numbered sound =

@@ -5,6 +5,7 @@ use Rattle.std.proofs.lemmas.List.{map-append, length-append}
 use Rattle.std.proofs.lemmas.Option.{slice_get_within}
 use Rattle.std.proofs.lemmas.Slice.Eq.{bytes_eq-Decides}
 use Rattle.std.specs.Prelude.{Some, None, slice_get}
+use Rattle.verse_base.proofs.Facts.{past}
 use Rattle.verse_tree.specs.Tree.{Bytes}
 use Rattle.verse_tree.specs.ItemTree.{FieldTree, MemberTree, field, method, ClassTree, ItemTree}
 use Rattle.verse_tree.specs.declared.tables.Ref.{Ref}
@@ -18,15 +19,13 @@ use Rattle.verse_names_declarations.specs.Lines.{on_class, line, line_of, Member
 use Rattle.verse_names_declarations.specs.Lines.{no_members}
 use Rattle.verse_names_items.specs.Tables.{field_info, own_fields, note_members, fields_of, class_table, class_tables_from, class_tables}
 use Rattle.verse_meaning_state.specs.Waits.{nth}
+use Rattle.verse_meaning_state.proofs.Numbers.{nth_is}
 use Rattle.verse_meaning.specs.Programs.{classes, fields_from}
 use Rattle.verse_meaning.specs.Programs as programs
+use Rattle.verse_meaning.proofs.Names.{test_itself}
 use Rattle.verse_accept_classes.proofs.Classes.{tree_of, notes_are, outline_many}
 use Rattle.verse_accept_classes.proofs.Parents.{at, parent_is, parents_within, or_else, look_keep}
 use Rattle.verse_accept_classes.proofs.Lines.{ends_above, ends, NoCircle, all_end}
-
-pub append_nil : {A : Type 0} (xs : List A) → xs ++ [] ≡ xs
-append_nil [] = refl
-append_nil (x ∷ xs) = ap (λ l. x ∷ l) (append_nil xs)
 
 -- the fields of a list of classes, those of the last class first
 abbrev pub field_trees : List Note → List ℕ → List FieldTree
@@ -66,18 +65,6 @@ pub no_parent : (os : List Class) (d : ℕ) → slice_get os d ≡ None → pare
 no_parent [] d e = refl
 no_parent (o ∷ os) zero e = cc
 no_parent (o ∷ os) (suc d) e = no_parent os d e
-
-pub past : {A B : Type 0} (xs : List A) (ys : List B) (d : ℕ) → length xs ≡ length ys → slice_get xs d ≡ None → slice_get ys d ≡ None
-past [] [] d e h = refl
-past [] (y ∷ ys) d e h = absurd (omega (arith, e))
-past (x ∷ xs) [] d e h = refl
-past (x ∷ xs) (y ∷ ys) zero e h = cc
-past (x ∷ xs) (y ∷ ys) (suc d) e h = past xs ys d (omega (arith, e)) h
-
-pub nth_is : {A : Type 0} (xs : List A) (n : ℕ) → nth xs n ≡ slice_get xs n
-nth_is [] n = refl
-nth_is (x ∷ xs) zero = refl
-nth_is (x ∷ xs) (suc n) = nth_is xs n
 
 module _ (is : List ItemTree) where
   abbrev k : Known
@@ -260,9 +247,6 @@ not_same x y h = by (bytes_eq x y) refl
     by true e = absurd (h ((bytes_eq-Decides x y).0 e))
     by false e = refl
 
-pub same_itself : (x : Bytes) → bytes_eq x x ≡ true
-same_itself x = (bytes_eq-Decides x x).1 refl
-
 differ_at : (x : Bytes) (ds : List FieldTree) (i : ℕ) (d : FieldTree) → Differ x ds → slice_get ds i ≡ Some d → d.name ≡ x → ⊥
 differ_at x [] i d h e q = cc
 differ_at x (y ∷ ds) zero d h e q = let same : y ≡ d = cc in h.0 (sym q ∙ ap (λ (z : FieldTree). z.name) (sym same))
@@ -274,7 +258,7 @@ find_named c n [] i d h e = cc
 find_named c n (y ∷ ds) zero d h e =
     let same : y ≡ d = cc in
     ap (λ b. cond b (Some (ref.Field c n)) (find c d.name (n + 1) ds)) (ap (λ (z : FieldTree). bytes_eq d.name z.name) same
-    ∙ same_itself d.name)
+    ∙ test_itself d.name)
     ∙ ap (λ m. Some (ref.Field c m)) (omega arith)
 find_named c n (y ∷ ds) (suc i) d h e =
     ap (λ b. cond b (Some (ref.Field c n)) (find c d.name (n + 1) ds)) (not_same d.name y.name (differ_at y.name ds i d h.0 e))

@@ -3,6 +3,7 @@ use Rattle.std.proofs.Common.{◌≡◌, ℕ, zero, suc, ◌+◌, ◌<◌, ◌�
 use Rattle.std.proofs.Common.{sym, ap, ◌∙◌, subst, arith}
 use Rattle.std.proofs.lemmas.List.{map-append}
 use Rattle.std.specs.Prelude.{Some, None, slice_get, ◌==◌}
+use Rattle.verse_base.proofs.Facts.{get_mapped, mapped_get}
 use Rattle.verse_tree.specs.ItemTree.{FunTree, MemberTree, field, method, ItemTree, using, enumeration, class, function}
 use Rattle.verse_tree.specs.Numbering.{list_nodes, list_numbered, field_nodes}
 use Rattle.verse_tree.specs.Numbering.{fun_nodes, fun_numbered, member_nodes, member_numbered, class_nodes}
@@ -19,6 +20,7 @@ use Rattle.verse_rules.specs.Naming.{made_function}
 use Rattle.verse_rules.specs.Sound.{completed}
 use Rattle.verse_meaning.specs.Programs.{or_else, method_numbered, fun_of_info}
 use Rattle.verse_meaning.specs.Programs as programs
+use Rattle.verse_meaning.proofs.Names.{or_cond}
 use Rattle.verse_accept_scopes.specs.Sites.{Site}
 use Rattle.verse_accept_scopes.specs.Holding.{OnFun, OnMembers, OnItem, OnItems}
 use Rattle.verse_accept_classes.specs.Owners.{Owned, methods_owned, item_owned, owned, world_in}
@@ -45,48 +47,37 @@ functions_are ts (class c ∷ is) n =
     sym (map-append (as_function ts) (methods_owned n.classes c.members) (owned (counted (counts_after (class c) n) is)))
 functions_are ts (function f ∷ is) n = ap (λ fs. fun_function ts f ∷ fs) (functions_are ts is (counts_after (function f) n))
 
-map_at : {A B : Type 0} (g : A → B) (xs : List A) (i : ℕ) (x : A) → slice_get xs i ≡ Some x → slice_get (map g xs) i ≡ Some (g x)
-map_at g [] i x e = cc
-map_at g (y ∷ xs) zero x e = let same : y ≡ x = cc in ap (λ x. Some (g x)) same
-map_at g (y ∷ xs) (suc i) x e = map_at g xs i x e
-
-at_map : {A B : Type 0} (g : A → B) (xs : List A) (i : ℕ) (y : B) → slice_get (map g xs) i ≡ Some y →
-    (x : A) × (slice_get xs i ≡ Some x) × (g x ≡ y)
-at_map g [] i y e = cc
-at_map g (x ∷ xs) zero y e = let same : g x ≡ y = cc in (x, refl, same)
-at_map g (x ∷ xs) (suc i) y e = at_map g xs i y e
-
 -- ---- their nodes have distinct numbers
 
 abbrev number_in : Owned → ℕ
 number_in o = o.tree.number
 
 -- numbers that rise, from the first one on and below the last one
-abbrev Rise : ℕ → List ℕ → ℕ → Type 0
+abbrev pub Rise : ℕ → List ℕ → ℕ → Type 0
 Rise n [] m = n ≤ m
 Rise n (x ∷ xs) m = (n ≤ x) × Rise (suc x) xs m
 
-lower : (k n m : ℕ) (xs : List ℕ) → k ≤ n → Rise n xs m → Rise k xs m
+pub lower : (k n m : ℕ) (xs : List ℕ) → k ≤ n → Rise n xs m → Rise k xs m
 lower k n m [] h r = omega (arith, h, r)
 lower k n m (x ∷ xs) h r = (omega (arith, h, r.0), r.1)
 
-both : (n k m : ℕ) (xs ys : List ℕ) → Rise n xs k → Rise k ys m → Rise n (xs ++ ys) m
+pub both : (n k m : ℕ) (xs ys : List ℕ) → Rise n xs k → Rise k ys m → Rise n (xs ++ ys) m
 both n k m [] ys h r = lower n k m ys h r
 both n k m (x ∷ xs) ys h r = (h.0, both (suc x) k m xs ys h.1 r)
 
-absent : (x n m : ℕ) (xs : List ℕ) → x < n → Rise n xs m → Absent x xs
+pub absent : (x n m : ℕ) (xs : List ℕ) → x < n → Rise n xs m → Absent x xs
 absent x n m [] h r = tt
 absent x n m (y ∷ ys) h r = ((λ e. omega (arith, h, r.0, e)), absent x (suc y) m ys (omega (arith, h, r.0)) r.1)
 
-distinct : (n m : ℕ) (xs : List ℕ) → Rise n xs m → Distinct xs
+pub distinct : (n m : ℕ) (xs : List ℕ) → Rise n xs m → Distinct xs
 distinct n m [] r = tt
 distinct n m (x ∷ xs) r = (absent x (suc x) m xs (omega arith) r.1, distinct (suc x) m xs r.1)
 
-joined : {A : Type 0} (f : A → ℕ) (n k m : ℕ) (xs ys : List A) → Rise n (map f xs) k → Rise k (map f ys) m → Rise n (map f (xs ++ ys)) m
+pub joined : {A : Type 0} (f : A → ℕ) (n k m : ℕ) (xs ys : List A) → Rise n (map f xs) k → Rise k (map f ys) m → Rise n (map f (xs ++ ys)) m
 joined f n k m xs ys h r = subst (λ l. Rise n l m) (sym (map-append f xs ys)) (both n k m (map f xs) (map f ys) h r)
 
 -- members numbered from n on
-abbrev members_from : List MemberTree → ℕ → List MemberTree
+abbrev pub members_from : List MemberTree → ℕ → List MemberTree
 members_from ms n = list_numbered member_numbered member_nodes ms n
 
 methods_rise : (c : ℕ) (ms : List MemberTree) (n : ℕ) → Rise n (map number_in (methods_owned c (members_from ms n)))
@@ -136,10 +127,6 @@ numbers_apart is h = subst (λ l. Distinct (map number_in (all_owned l no_counts
 abbrev numbered_in : ℕ → List Owned → Option FunTree
 numbered_in n [] = None
 numbered_in n (o ∷ os) = cond (o.tree.number == n) (Some o.tree) (numbered_in n os)
-
-or_cond : (b : Bool) (f : FunTree) (x y : Option FunTree) → cond b (Some f) (or_else x y) ≡ or_else (cond b (Some f) x) y
-or_cond true f x y = refl
-or_cond false f x y = refl
 
 numbered_both : (n : ℕ) (xs ys : List Owned) → numbered_in n (xs ++ ys) ≡ or_else (numbered_in n xs) (numbered_in n ys)
 numbered_both n [] ys = refl
@@ -194,14 +181,14 @@ module _ (is : List ItemTree) where
   pub info_at : (g : ℕ) (o : Owned) → slice_get all g ≡ Some o →
       slice_get (completed is).funs g ≡ Some (made_function (fun_function k.index.types o.tree))
   info_at g o e =
-      map_at made_function (functions k.index.types k.items) g (fun_function k.index.types o.tree)
-      (ap (λ fs. slice_get fs g) (functions_are k.index.types is no_counts) ∙ map_at (as_function k.index.types) all g o e)
+      get_mapped made_function (functions k.index.types k.items) g (fun_function k.index.types o.tree)
+      (ap (λ fs. slice_get fs g) (functions_are k.index.types is no_counts) ∙ get_mapped (as_function k.index.types) all g o e)
 
   pub owner_of : (g : ℕ) (info : FunInfo) → slice_get (completed is).funs g ≡ Some info →
       (o : Owned) × (slice_get all g ≡ Some o) × (made_function (fun_function k.index.types o.tree) ≡ info)
   owner_of g info e =
-      let f = at_map made_function (functions k.index.types k.items) g info e in
-      let o = at_map (as_function k.index.types) all g f.0 (ap (λ fs. slice_get fs g) (sym (functions_are k.index.types is no_counts))
+      let f = mapped_get made_function (functions k.index.types k.items) g info e in
+      let o = mapped_get (as_function k.index.types) all g f.0 (ap (λ fs. slice_get fs g) (sym (functions_are k.index.types is no_counts))
       ∙ f.1) in
       (o.0, o.1, ap made_function o.2 ∙ f.2)
 

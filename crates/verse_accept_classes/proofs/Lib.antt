@@ -2,7 +2,6 @@ pub mod Places
 pub mod Sums
 pub mod Lines
 pub mod Classes
-pub mod Names
 pub mod Parents
 pub mod Circles
 pub mod Functions

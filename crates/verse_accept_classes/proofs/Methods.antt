@@ -2,6 +2,7 @@
 use Rattle.std.proofs.Common.{◌≡◌, ℕ, zero, suc, ◌+◌, ◌<◌, Bool, true, false, cond, bytes_eq, List, [], ◌∷◌, ◌++◌, length}
 use Rattle.std.proofs.Common.{Option, refl, sym, ap, ◌∙◌, subst, arith, inl, inr}
 use Rattle.std.specs.Prelude.{Some, None, slice_get, not, ◌&&◌, ◌||◌, ◌⊎◌}
+use Rattle.std.proofs.lemmas.Bool.{false_from_ne_true}
 use Rattle.verse_tree.specs.Tree.{Bytes}
 use Rattle.verse_tree.specs.ItemTree.{FunTree, MemberTree, field, method, ItemTree, using, enumeration, class, function}
 use Rattle.verse_tree.specs.declared.tables.Ref.{Ref}
@@ -261,10 +262,6 @@ module _ (k : Known) where
   both_true true false h = cc
   both_true false b h = cc
 
-  not_true : (b : Bool) → (b ≡ true → ⊥) → b ≡ false
-  not_true true h = absurd (h refl)
-  not_true false h = refl
-
   over_found : (marked : Bool) (n g : ℕ) (o : Option Ref) → misses_override k marked n o ≡ false → o ≡ Some (ref.Fun g) → Over k g n
   over_found marked n g None h e = cc
   over_found marked n g (Some r) h e =
@@ -276,7 +273,7 @@ module _ (k : Known) where
       look f.name h.above.methods ≡ Some (ref.Fun g) → Over k g n
   method_over h n f quiet g e =
       let kept : (has override_word f.effects || misses_override k (has override_word f.specs) n (look f.name h.above.methods)) ≡ false =
-      not_true _ (λ q. quiet 45 (other (other (other (other (other (holds_here q))))))) in
+      false_from_ne_true _ (λ q. quiet 45 (other (other (other (other (other (holds_here q))))))) in
       over_found (has override_word f.specs) n g (look f.name h.above.methods) (or_false (has override_word f.effects) _ kept) e
 
   members_over : (h : Home) (xs : Table) (n : ℕ) (ms : List MemberTree) → h.above.methods ≡ xs →

@@ -14,16 +14,16 @@ use Rattle.verse_names_declarations.specs.declared.counting.Counts.{Counts}
 use Rattle.verse_names_declarations.specs.Known.{Note, Index, indexed, index_all, no_index, class_number, parent_number, outlined, known}
 use Rattle.verse_meaning.specs.Programs.{same_name, class_named, classes}
 use Rattle.verse_meaning.specs.Programs as programs
+use Rattle.verse_meaning.proofs.Names.{same_bytes}
 use Rattle.verse_accept_classes.proofs.Places.{Placed, all_placed}
-use Rattle.verse_accept_classes.proofs.Names.{same_bytes}
 use Rattle.verse_accept_classes.proofs.Classes.{tree_of, notes_are, outline_many}
 
 -- what the items of a list are called, in turn
-abbrev all_named : (ItemTree → Counts → Option (Bytes × Ref)) → List Counted → Table → Table
+abbrev pub all_named : (ItemTree → Counts → Option (Bytes × Ref)) → List Counted → Table → Table
 all_named as1 [] t = t
 all_named as1 (i ∷ is) t = all_named as1 is (keep_named (as1 i.item i.before) t)
 
-classes_named : (is : List Counted) (x : Index) → (index_all is x).classes ≡ all_named named_class_as is x.classes
+pub classes_named : (is : List Counted) (x : Index) → (index_all is x).classes ≡ all_named named_class_as is x.classes
 classes_named [] x = refl
 classes_named (i ∷ is) x = classes_named is (indexed i x)
 

@@ -1,7 +1,8 @@
 -- What names stand for is there.
-use Rattle.std.proofs.Common.{◌≡◌, ℕ, zero, suc, ◌+◌, ◌<◌, Bool, true, false, cond, bytes_eq, List, [], ◌∷◌, ◌++◌, map, length}
+use Rattle.std.proofs.Common.{◌≡◌, ℕ, zero, suc, ◌+◌, ◌<◌, Bool, true, false, cond, bytes_eq, List, [], ◌∷◌, ◌++◌, length}
 use Rattle.std.proofs.Common.{Option, refl, sym, ap, ◌∙◌, subst, arith}
 use Rattle.std.specs.Prelude.{Some, None, slice_get}
+use Rattle.std.proofs.lemmas.List.{length-map}
 use Rattle.verse_tree.specs.Tree.{Bytes}
 use Rattle.verse_tree.specs.ItemTree.{MemberTree, field, method, ItemTree, using, enumeration}
 use Rattle.verse_tree.specs.ItemTree.{class, function}
@@ -9,7 +10,7 @@ use Rattle.verse_tree.specs.declared.tables.Ref.{Ref}
 use Rattle.verse_tree.specs.declared.tables.Ref.TheVariants as ref
 use Rattle.verse_names_declarations.specs.Names.{Table, look, put, put_absent, keep, keep_named, names, meanings}
 use Rattle.verse_names_declarations.specs.Words.{builtins}
-use Rattle.verse_names_declarations.specs.Counting.{Counted, counted, counts_after, funs_after, named_as, no_counts}
+use Rattle.verse_names_declarations.specs.Counting.{Counted, counted, counts_after, funs_after, named_as, named_type_as, no_counts}
 use Rattle.verse_names_declarations.specs.declared.counting.Counts.{Counts}
 use Rattle.verse_names_declarations.specs.Known.{Index, indexed, index_all, no_index, notes, Known, known}
 use Rattle.verse_names_declarations.specs.Lines.{line_of, all_members}
@@ -118,8 +119,29 @@ module _ (all : List ItemTree) (this : Option ℕ) where
   items_there (i ∷ is) n x l h =
       items_there is (counts_after i n) (indexed record { item = i; before = n } x) (next all is i n l) (named_there i is n x.items l h)
 
+  -- those that are classes or enums
+  typed_there : (i : ItemTree) (is : List ItemTree) (n : Counts) (t : Table) → Last all (i ∷ is) n → There t →
+      There (keep_named (named_type_as i n) t)
+  typed_there (using u) is n t l h = h
+  typed_there (enumeration e) is n t l h =
+      keep_all (IsThere all this) e.name (ref.Enum n.enums) t (record { tree = e; there = l.enums.0 }) h
+  typed_there (class c) is n t l h =
+      keep_all (IsThere all this) c.name (ref.Class n.classes) t
+      (record { note = record { item = c; first = n.funs }; there = l.classes.0 }) h
+  typed_there (function f) is n t l h = h
+
+  types_there : (is : List ItemTree) (n : Counts) (x : Index) → Last all is n → There x.types → There (index_all (counted n is) x).types
+  types_there [] n x l h = h
+  types_there (i ∷ is) n x l h =
+      types_there is (counts_after i n) (indexed record { item = i; before = n } x) (next all is i n l) (typed_there i is n x.types l h)
+
   builtins_there : There builtins
   builtins_there = (omega arith, (omega arith, (omega arith, (omega arith, tt))))
+
+pub type_there : (is : List ItemTree) (x : Bytes) (r : Ref) → look x (known is).index.types ≡ Some r → IsThere is None r
+type_there is x r e =
+    subst (Holds (IsThere is None)) e
+    (look_all (IsThere is None) x (known is).index.types (types_there is None is no_counts no_index (whole is) tt))
 
 -- ---- members by their bare names
 
@@ -161,10 +183,6 @@ found_method c x i (y ∷ ys) r e = by (bytes_eq x y) e (found_method c x (i + 1
     by false e f =
         let g = f e in
         record { place = suc g.place; is = g.is ∙ ap (ref.Method c) (omega arith); within = omega (arith, g.within) }
-
-map_length : {A B : Type 0} (f : A → B) (xs : List A) → length (map f xs) ≡ length xs
-map_length f [] = refl
-map_length f (x ∷ xs) = ap suc (map_length f xs)
 
 entry_within : (t : Table) (i : ℕ) → i < length t → (e : Bytes × Ref) × (slice_get t i ≡ Some e)
 entry_within [] i l = absurd (omega (arith, l))
@@ -215,7 +233,7 @@ module _ (is : List ItemTree) (quiet : (n c : ℕ) → ItemsBreak is n c → ⊥
   method_there c x r e =
       let f = found_method c x 0 (names (all_members k c).methods) r e in
       let within : f.place < length (all_members k c).methods =
-      omega (arith, f.within, map_length (λ (e : Bytes × Ref). e.0) (all_members k c).methods) in
+      omega (arith, f.within, length-map (all_members k c).methods (λ (e : Bytes × Ref). e.0)) in
       subst (IsThere is (Some c)) (sym (f.is ∙ ap (ref.Method c) (omega arith))) (refl, is_method c f.place within)
 
   bare_there : (c : ℕ) (x : Bytes) (r : Ref) → look x (bare_members k c) ≡ Some r → IsThere is (Some c) r

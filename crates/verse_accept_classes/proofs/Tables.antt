@@ -3,16 +3,17 @@ use Rattle.std.proofs.Common.{◌≡◌, ℕ, zero, suc, ◌+◌, ◌<◌, Bool,
 use Rattle.std.proofs.Common.{Option, refl, sym, ap, ◌∙◌, arith}
 use Rattle.std.proofs.lemmas.Option.{slice_get_within}
 use Rattle.std.specs.Prelude.{Some, None, slice_get}
+use Rattle.verse_base.proofs.Facts.{get_first, get_within, get_mapped, mapped_none}
 use Rattle.verse_tree.specs.Tree.{Bytes, Written, Writtens, no_writtens, more_writtens}
 use Rattle.verse_tree.specs.Tree as t
 use Rattle.verse_tree.specs.ItemTree.{FieldTree, ItemTree}
-use Rattle.verse_tree.specs.declared.tables.Ty.{Ty as Made, Ty-F, roll-Ty, map-Ty, fold-roll-Ty}
+use Rattle.verse_tree.specs.declared.tables.Ty.{Ty as Made}
 use Rattle.verse_tree.specs.declared.tables.Ty.TheOpen as layer
 use Rattle.verse_tree.specs.declared.tables.MapOf.{MapOf, MapOf-F, fold-roll-MapOf}
 use Rattle.verse_tree.specs.declared.tables.Names.{Names}
 use Rattle.verse_tree.specs.declared.tables.Ref.{Ref}
 use Rattle.verse_tree.specs.declared.tables.Ref.TheVariants as ref
-use Rattle.verse_rules_types.specs.Types.{Ty, Tys, no_tys, more_tys, tys, ty_step, two_tys, ty_of, map_of, Field, Class}
+use Rattle.verse_rules_types.specs.Types.{Ty, Tys, no_tys, more_tys, tys, ty_step, two_tys, ty_of, Field, Class}
 use Rattle.verse_rules_types.specs.Types.{classes_of}
 use Rattle.verse_rules_types.specs.Types as ty
 use Rattle.verse_rules_types.specs.Fitting.{parent_of}
@@ -28,6 +29,7 @@ use Rattle.verse_check_typing.specs.Facts.{members_from, class_members}
 use Rattle.verse_check_typing.specs.Members.{fields_of, fields_in, field_by, field_named, field_place, method_by, method_named}
 use Rattle.verse_rules.specs.Made.{made, all_made}
 use Rattle.verse_rules.specs.Naming.{made_field, made_class, named}
+use Rattle.verse_rules.proofs.Made.{one_layer}
 use Rattle.verse_meaning.specs.Programs.{classes}
 use Rattle.verse_meaning.specs.Programs as programs
 use Rattle.verse_accept_scopes.specs.Holding.{OnWrittens}
@@ -51,9 +53,6 @@ use Rattle.verse_accept_classes.proofs.Methods.{method_at, method_below, owner_a
 use Rattle.verse_accept_classes.proofs.Referring.{is_method, outside_names, inside_names}
 
 -- ---- types
-
-one_layer : (x : Ty-F Made MapOf) → ty_of (roll-Ty x) ≡ ty_step (map-Ty Made MapOf Ty (Ty × Ty) ty_of map_of x)
-one_layer x = fold-roll-Ty Ty (Ty × Ty) ty_step two_tys x
 
 mutual
   -- the type that is made of one stands for it
@@ -84,21 +83,6 @@ mutual
 
 -- ---- classes
 
-get_map : {A B : Type 0} (f : A → B) (xs : List A) (i : ℕ) (x : A) → slice_get xs i ≡ Some x → slice_get (map f xs) i ≡ Some (f x)
-get_map f [] i x e = cc
-get_map f (y ∷ xs) zero x e = let same : y ≡ x = cc in ap (λ z. Some (f z)) same
-get_map f (y ∷ xs) (suc i) x e = get_map f xs i x e
-
-get_none : {A B : Type 0} (f : A → B) (xs : List A) (i : ℕ) → slice_get xs i ≡ None → slice_get (map f xs) i ≡ None
-get_none f [] i e = refl
-get_none f (y ∷ xs) zero e = cc
-get_none f (y ∷ xs) (suc i) e = get_none f xs i e
-
-pub get_first : {A : Type 0} (xs ys : List A) (i : ℕ) (x : A) → slice_get xs i ≡ Some x → slice_get (xs ++ ys) i ≡ Some x
-get_first [] ys i x e = cc
-get_first (y ∷ xs) ys zero x e = e
-get_first (y ∷ xs) ys (suc i) x e = get_first xs ys i x e
-
 map_map : {A B C : Type 0} (f : A → B) (g : B → C) (xs : List A) → map g (map f xs) ≡ map (λ x. g (f x)) xs
 map_map f g [] = refl
 map_map f g (x ∷ xs) = ap (λ l. g (f x) ∷ l) (map_map f g xs)
@@ -119,11 +103,6 @@ members_at : (k : Known) (c n : ℕ) (os : List Class) (o : Class) → slice_get
 members_at k c n [] o e = cc
 members_at k c zero (x ∷ os) o e = ap (λ d. Some (all_members k d)) (omega arith)
 members_at k c (suc n) (x ∷ os) o e = members_at k (c + 1) n os o e ∙ ap (λ d. Some (all_members k d)) (omega arith)
-
-within_at : {A : Type 0} (xs : List A) (i : ℕ) → i < length xs → (x : A) × (slice_get xs i ≡ Some x)
-within_at [] i l = absurd (omega (arith, l))
-within_at (x ∷ xs) zero l = (x, refl)
-within_at (x ∷ xs) (suc i) l = within_at xs i (omega (arith, l))
 
 module _ (is : List ItemTree) (quiet : Quiet is) where
   abbrev k : Known
@@ -160,17 +139,17 @@ module _ (is : List ItemTree) (quiet : Quiet is) where
 
       by : (o : Option Class) → slice_get k.outline c ≡ o → fields_of (final is) c ≡ map (info_of is) (class_fields is c)
       by None e =
-          ap fields_in (get_none made_class (class_tables k) c (no_table k 0 c k.outline e))
+          ap fields_in (mapped_none made_class (class_tables k) c (no_table k 0 c k.outline e))
           ∙ ap (map (info_of is)) (sym (none (slice_get k.notes c) refl (no_parent k.outline c e) e))
       by (Some o) e =
-          ap fields_in (get_map made_class (class_tables k) c (class_table k c o) (class_at is c o e))
+          ap fields_in (get_mapped made_class (class_tables k) c (class_table k c o) (class_at is c o e))
           ∙ ap (map made_field) (fields_are k.index.types k.notes (line_of k.outline c))
           ∙ map_map (field_info k.index.types) made_field (class_fields is c)
 
   module _ (c : ℕ) (l : c < length k.outline) where
     members_is : slice_get (class_members k) c ≡ Some (all_members k c)
     members_is =
-        let o = within_at k.outline c l in
+        let o = get_within k.outline c l in
         members_at k 0 c k.outline o.0 o.1 ∙ ap (λ d. Some (all_members k d)) (omega arith)
 
     by_name : (x : Bytes) → field_by (final is) c x ≡ field_place (find c x 0 (class_fields is c))

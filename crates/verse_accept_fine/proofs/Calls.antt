@@ -3,7 +3,9 @@ use Rattle.std.proofs.Common.{◌≡◌, ℕ, zero, suc, ◌+◌, Bool, true, fa
 use Rattle.std.proofs.Common.{refl, sym, subst, ap, ◌∙◌, arith}
 use Rattle.std.proofs.lemmas.Bool.Decides.{nat_tests}
 use Rattle.std.specs.Prelude.{Some, None, slice_get}
+use Rattle.std.proofs.lemmas.Bool.{not-true, not-false}
 use Rattle.verse_base.specs.declared.places.Place.{Place}
+use Rattle.verse_base.proofs.Facts.{not_first, not_second, get_mapped}
 use Rattle.verse_tree.specs.Tree.{Bytes, Tree, tree, Shape, Trees, no_trees, more_trees}
 use Rattle.verse_tree.specs.Tree as t
 use Rattle.verse_tree.specs.ItemTree.{ItemTree}
@@ -54,22 +56,13 @@ use Rattle.verse_accept_classes.specs.Referring.{IsFunction, IsMethod}
 use Rattle.verse_accept_classes.specs.Laws.{Quiet, FunctionsStand, MethodsOwned}
 use Rattle.verse_accept_classes.proofs.Fields.{no_parent, class_at}
 use Rattle.verse_accept_fine.specs.Sorted.{At, ty_at, all_classes, up, made_sort, lasts, class_in, signature_of, sorted, program, Allows}
-use Rattle.verse_accept_fine.proofs.Rules.{EffectsKept, not_not, both_false, or_left, or_right}
+use Rattle.verse_accept_fine.proofs.Rules.{EffectsKept, or_left, or_right}
 use Rattle.verse_accept_fine.proofs.Base.{its_row, is_row}
 use Rattle.verse_accept_fine.proofs.Base as base
 use Rattle.verse_accept_fine.proofs.Control.{async_waits}
 
-lasting_is : (q : Bool) → not q ≡ true → q ≡ false
-lasting_is true h = cc
-lasting_is false h = refl
-
 free : (e : Effects) → is_lasting e ≡ true → e.computes ≡ false
-free e k = or_left e.computes e.transacts (lasting_is (e.computes || e.transacts) k)
-
-left_false : (q r : Bool) → (q && r) ≡ false → r ≡ true → q ≡ false
-left_false true true h e = cc
-left_false true false h e = cc
-left_false false r h e = refl
+free e k = or_left e.computes e.transacts (not-true (e.computes || e.transacts) k)
 
 or_true : (q : Bool) → (q || true) ≡ true
 or_true true = refl
@@ -91,11 +84,6 @@ none_noted : (ts : Table) (ns : List Note) (d : ℕ) → slice_get (map (outline
 none_noted ts [] d e = refl
 none_noted ts (n ∷ ns) zero e = cc
 none_noted ts (n ∷ ns) (suc d) e = none_noted ts ns d e
-
-get_map : {A B : Type 0} (f : A → B) (xs : List A) (i : ℕ) (x : A) → slice_get xs i ≡ Some x → slice_get (map f xs) i ≡ Some (f x)
-get_map f [] i x e = cc
-get_map f (y ∷ xs) zero x e = let same : y ≡ x = cc in ap (λ z. Some (f z)) same
-get_map f (y ∷ xs) (suc i) x e = get_map f xs i x e
 
 module _ (is : List ItemTree) where
   no_members_of : (n d : ℕ) → parent_of (known is).outline d ≡ None → slice_get (known is).notes d ≡ None →
@@ -122,7 +110,7 @@ module _ (is : List ItemTree) where
       slice_get (completed is).classes d ≡ Some (made_class (class_table (known is) d (class_there d i f).0))
   class_entry d i f =
       let o = class_there d i f in
-      get_map made_class (class_tables (known is)) d (class_table (known is) d o.0) (class_at is d o.0 o.1)
+      get_mapped made_class (class_tables (known is)) d (class_table (known is) d o.0) (class_at is d o.0 o.1)
 
 module _ (is : List ItemTree) (arrays events : ℕ → Bool) where
   abbrev pub info_of : Owned → FunInfo
@@ -192,10 +180,10 @@ module _ (is : List ItemTree) (arrays events : ℕ → Bool) where
         outer : is_lasting e ≡ true → e.suspends ≡ false → b.waits ≡ true
         outer k s =
             let undoable : cannot_undo (completed is) x ≡ true = undo ∙ ap (λ q. q && not e.suspends) k ∙ ap not s in
-            let off = both_false (cannot_undo (completed is) x) _ kept.undone undoable in
+            let off = not_second (cannot_undo (completed is) x) _ kept.undone undoable in
             let first = or_left (a.is_tried || a.owner.effects.transacts) a.is_deferred off in
             let more : touches (completed is) F.vars a n x ≡ true = touch ∙ ap not (free e k) in
-            let computes : a.owner.effects.computes ≡ false = left_false a.owner.effects.computes _ kept.computes more in
+            let computes : a.owner.effects.computes ≡ false = not_first a.owner.effects.computes _ kept.computes more in
             let transacts : a.owner.effects.transacts ≡ false = or_right a.is_tried a.owner.effects.transacts first in
             allows.waits (or_left a.is_tried a.owner.effects.transacts first) (or_right
             (a.is_tried || a.owner.effects.transacts) a.is_deferred off)
@@ -275,7 +263,7 @@ module _ (is : List ItemTree) (arrays events : ℕ → Bool) where
           lasts = ap call_lasts k.effects;
           touches = ap call_touches k.effects;
           fails = λ d. let no : true ≡ false = sym d ∙ never in absurd (cc);
-          counted = ap (λ z. are_wanted (call_wanted z) (count ts)) (sym k.callee) ∙ not_not _ (base.types is w a xs n p x h).counted;
+          counted = ap (λ z. are_wanted (call_wanted z) (count ts)) (sym k.callee) ∙ not-false _ (base.types is w a xs n p x h).counted;
           gives = its_row is w a xs n p x h ∙ ap (λ z. call_type z ts) k.callee;
         })
         args

@@ -1,8 +1,10 @@
 -- Conditions, loops, groups and what leaves a body: what their forms need.
 use Rattle.std.proofs.Common.{◌≡◌, ℕ, Bool, true, false, not, cond, ◌||◌, List, [], ◌∷◌, refl, sym, subst, ap, ◌∙◌}
 use Rattle.std.specs.Prelude.{Some, option_map}
+use Rattle.std.proofs.lemmas.Bool.{not-false}
 use Rattle.verse_base.specs.declared.places.Place.{Place}
-use Rattle.verse_tree.specs.Tree.{Written, Tree, Shape, Trees}
+use Rattle.verse_base.proofs.Facts.{and_first, and_second, not_second, guarded}
+use Rattle.verse_tree.specs.Tree.{Written, Tree, Shape, Trees, no_trees, more_trees}
 use Rattle.verse_tree.specs.Tree as t
 use Rattle.verse_tree.specs.ItemTree.{ItemTree}
 use Rattle.verse_tree.specs.declared.exprs.Operator.TheVariants as op
@@ -20,7 +22,7 @@ use Rattle.verse_check_typing.specs.Facts.{Facts, type_of}
 use Rattle.verse_check_typing.specs.Parts.{is_int, are_ints, sum_of, is_summed}
 use Rattle.verse_check_typing.specs.Parts as parts
 use Rattle.verse_check_typing.specs.Rows.{loop_type, spelled}
-use Rattle.verse_check_typing.specs.TypeRules.{fits_result}
+use Rattle.verse_check_typing.specs.TypeRules.{fits_result, alone, is_alone}
 use Rattle.verse_effects.specs.Forms.{is_async}
 use Rattle.verse_rules.specs.Sound.{completed}
 use Rattle.verse_meaning.specs.Residuals as form
@@ -35,12 +37,17 @@ use Rattle.verse_sorts_values.specs.Operands.{sorts, HasNever, never_here, never
 use Rattle.verse_sound_rules.specs.Found.{Allowed, tried, armed, deferred, looped}
 use Rattle.verse_sound_rules.specs.Forms.{Gives, Takes, IsOrder, order_below, order_at_most, order_above, order_at_least}
 use Rattle.verse_sound_rules.specs.Forms as takes
-use Rattle.verse_sound_rules.specs.Fine.{sorts_at}
+use Rattle.verse_sound_rules.specs.Fine.{Several, sorts_at}
 use Rattle.verse_accept_rows.specs.Found.{final}
 use Rattle.verse_accept_fine.specs.Sorted.{At, ty_at, all_classes, up, written_sort, sorted, program, Allows, is_array_type}
-use Rattle.verse_accept_fine.proofs.Rules.{not_not, both_false, guarded, and_left, and_right, or_left, or_right}
+use Rattle.verse_accept_fine.proofs.Rules.{or_left, or_right}
 use Rattle.verse_accept_fine.proofs.Base.{types, effects, its_row, of_row, is_row}
 use Rattle.verse_accept_fine.proofs.Operators.{int_fits, caught, tuple_sorts}
+
+are_several : (ts : Trees) → is_alone ts ≡ false → Several ts
+are_several no_trees h = absurd (cc)
+are_several (more_trees e no_trees) h = absurd (cc)
+are_several (more_trees e (more_trees f ts)) h = tt
 
 module _ (is : List ItemTree) (arrays events : ℕ → Bool) where
   abbrev F : Facts
@@ -136,16 +143,9 @@ module _ (is : List ItemTree) (arrays events : ℕ → Bool) where
         let j = join_both (all_classes is) (type_of F e) (type_of F f) in
         (of_row is n (sort_of (type_of F e)) _ r j.0, of_row is n (sort_of (type_of F f)) _ r j.1)
 
-    pub and_gives : (v : Bool) (e f : Tree) → At is w a xs n p (t.Shape.chained op.And e f) →
-        Give (form.computing op.And v p) (sort_of (type_of F e) ∷ sort_of (type_of F f) ∷ [])
-    and_gives v e f h = record {
-      no_case = tt;
-      taken = sort_of (type_of F e) ∷ sort_of (type_of F f) ∷ [];
-      given = sort_of (type_of F f);
-      operands = all_itself (up is) _;
-      takes = takes.takes_and;
-      value = is_row is n _ (its_row is w a xs n p (t.Shape.chained op.And e f) h);
-    }
+    pub and_fits : (e f : Tree) → At is w a xs n p (t.Shape.chained op.And e f) →
+        Fits (up is) (sort_of (type_of F f)) (sort_of (ty_at is n))
+    and_fits e f h = is_row is n (type_of F f) (its_row is w a xs n p (t.Shape.chained op.And e f) h)
 
     -- ---- arithmetic
 
@@ -156,8 +156,8 @@ module _ (is : List ItemTree) (arrays events : ℕ → Bool) where
       no_case = c;
       taken = s.int ∷ s.int ∷ [];
       given = s.int;
-      operands = fit_so (int_fits is arrays events (type_of F e) (and_left (is_int (type_of F e)) _ h))
-          (fit_so (int_fits is arrays events (type_of F f) (and_right (is_int (type_of F e)) _ h)) fit_no);
+      operands = fit_so (int_fits is arrays events (type_of F e) (and_first (is_int (type_of F e)) _ h))
+          (fit_so (int_fits is arrays events (type_of F f) (and_second (is_int (type_of F e)) _ h)) fit_no);
       takes = k;
       value = is_row is n ty.int r;
     }
@@ -165,13 +165,13 @@ module _ (is : List ItemTree) (arrays events : ℕ → Bool) where
     pub difference_gives : (v : Bool) (e f : Tree) → At is w a xs n p (t.Shape.chained op.Sub e f) →
         Give (form.computing op.Sub v p) (sort_of (type_of F e) ∷ sort_of (type_of F f) ∷ [])
     difference_gives v e f h =
-        ints_given (form.computing op.Sub v p) e f (not_not _ (types is w a xs n p (t.Shape.chained op.Sub e f) h).matched)
+        ints_given (form.computing op.Sub v p) e f (not-false _ (types is w a xs n p (t.Shape.chained op.Sub e f) h).matched)
         (its_row is w a xs n p (t.Shape.chained op.Sub e f) h) takes.takes_difference tt
 
     pub product_gives : (v : Bool) (e f : Tree) → At is w a xs n p (t.Shape.chained op.Mul e f) →
         Give (form.computing op.Mul v p) (sort_of (type_of F e) ∷ sort_of (type_of F f) ∷ [])
     product_gives v e f h =
-        ints_given (form.computing op.Mul v p) e f (not_not _ (types is w a xs n p (t.Shape.chained op.Mul e f) h).matched)
+        ints_given (form.computing op.Mul v p) e f (not-false _ (types is w a xs n p (t.Shape.chained op.Mul e f) h).matched)
         (its_row is w a xs n p (t.Shape.chained op.Mul e f) h) takes.takes_product tt
 
     -- the join of arrays is an array
@@ -243,7 +243,7 @@ module _ (is : List ItemTree) (arrays events : ℕ → Bool) where
     pub sum_gives : (e f : Tree) → At is w a xs n p (t.Shape.chained op.Add e f) → arrays n ≡ is_array_type (ty_at is n) →
         Give (form.computing op.Add (arrays n) p) (sort_of (type_of F e) ∷ sort_of (type_of F f) ∷ [])
     sum_gives e f h q =
-        sum_by (type_of F e) (type_of F f) (not_not _ (types is w a xs n p (t.Shape.chained op.Add e f) h).matched)
+        sum_by (type_of F e) (type_of F f) (not-false _ (types is w a xs n p (t.Shape.chained op.Add e f) h).matched)
         (its_row is w a xs n p (t.Shape.chained op.Add e f) h) q
 
     -- ---- comparisons
@@ -293,9 +293,9 @@ module _ (is : List ItemTree) (arrays events : ℕ → Bool) where
     pub returned_gives : (v : Written) (e : Tree) → At is w a xs n p (t.Shape.returned e) → a.owner.result ≡ Some v →
         Give form.returning (sort_of (type_of F e) ∷ [])
     returned_gives v e h own =
-        let may : a.may_return ≡ true = not_not _ (effects is w a xs n p (t.Shape.returned e) h).stays in
+        let may : a.may_return ≡ true = not-false _ (effects is w a xs n p (t.Shape.returned e) h).stays in
         let fit : fits (all_classes is) (type_of F e) (spelled F v) ≡ true =
-        ap (λ o. fits_result F o (type_of F e)) (sym own) ∙ not_not _ (types is w a xs n p (t.Shape.returned e) h).matched in
+        ap (λ o. fits_result F o (type_of F e)) (sym own) ∙ not-false _ (types is w a xs n p (t.Shape.returned e) h).matched in
         record {
           no_case = tt;
           taken = written_sort is v ∷ [];
@@ -306,20 +306,20 @@ module _ (is : List ItemTree) (arrays events : ℕ → Bool) where
         }
 
     void_fits : (u : Ty) → fits (all_classes is) ty.void u ≡ true → Fits (up is) s.unit (sort_of u)
-    void_fits ty.void h = s.to_any
+    void_fits ty.void h = s.to_any tt
     void_fits u h = absurd (cc)
 
     pub unit_returned : (v : Written) → At is w a xs n p t.Shape.returned_unit → a.owner.result ≡ Some v →
         (r : Sort) × (b.result ≡ Some r) × Fits (up is) s.unit r
     unit_returned v h own =
-        let may : a.may_return ≡ true = not_not _ (effects is w a xs n p t.Shape.returned_unit h).stays in
+        let may : a.may_return ≡ true = not-false _ (effects is w a xs n p t.Shape.returned_unit h).stays in
         let fit : fits (all_classes is) ty.void (spelled F v) ≡ true =
-        ap (λ o. fits_result F o ty.void) (sym own) ∙ not_not _ (types is w a xs n p t.Shape.returned_unit h).matched in
+        ap (λ o. fits_result F o ty.void) (sym own) ∙ not-false _ (types is w a xs n p t.Shape.returned_unit h).matched in
         (written_sort is v, allows.result may ∙ ap (option_map (written_sort is)) own, void_fits (spelled F v) fit)
 
     pub break_allowed : At is w a xs n p t.Shape.break_form → b.breaks ≡ true
     break_allowed h =
-        let may : a.may_break ≡ true = not_not _ (effects is w a xs n p t.Shape.break_form h).stays in
+        let may : a.may_break ≡ true = not-false _ (effects is w a xs n p t.Shape.break_form h).stays in
         let l = allows.loop may in
         allows.breaks may l.0 l.1 ∙ h.left l.0 l.1
 
@@ -327,7 +327,7 @@ module _ (is : List ItemTree) (arrays events : ℕ → Bool) where
 
     pub loop_fits : (e : Tree) → At is w a xs n p (t.Shape.loop_form e) → has_number n F.left ≡ true →
         Fits (up is) s.unit (sort_of (ty_at is n))
-    loop_fits e h left = of_row is n s.unit ty.void (its_row is w a xs n p (t.Shape.loop_form e) h ∙ ap loop_type left) s.to_any
+    loop_fits e h left = of_row is n s.unit ty.void (its_row is w a xs n p (t.Shape.loop_form e) h ∙ ap loop_type left) (s.to_any tt)
 
     -- ---- groups and waits
 
@@ -335,14 +335,17 @@ module _ (is : List ItemTree) (arrays events : ℕ → Bool) where
     pub async_waits : (x : Shape) → At is w a xs n p x → is_async (completed is) a x ≡ true → b.waits ≡ true
     async_waits x h e =
         let kept = effects is w a xs n p x h in
-        let off = both_false (is_async (completed is) a x) _ kept.suspends e in
-        let suspends : a.owner.effects.suspends ≡ true = not_not _ (or_left (not a.owner.effects.suspends) a.is_deferred off) in
-        allows.waits (both_false (is_async (completed is) a x) a.is_tried kept.tried e) (or_right
+        let off = not_second (is_async (completed is) a x) _ kept.suspends e in
+        let suspends : a.owner.effects.suspends ≡ true = not-false _ (or_left (not a.owner.effects.suspends) a.is_deferred off) in
+        allows.waits (not_second (is_async (completed is) a x) a.is_tried kept.tried e) (or_right
         (not a.owner.effects.suspends) a.is_deferred off)
         (ap (λ q. q || Rattle.verse_effects.specs.Callees.is_lasting a.owner.effects) suspends)
 
     pub async_free : (x : Shape) → At is w a xs n p x → is_async (completed is) a x ≡ true → a.is_tried ≡ false
-    async_free x h e = both_false (is_async (completed is) a x) a.is_tried (effects is w a xs n p x h).tried e
+    async_free x h e = not_second (is_async (completed is) a x) a.is_tried (effects is w a xs n p x h).tried e
+
+    pub group_several : (x : Shape) (ts : Trees) → At is w a xs n p x → alone x ≡ is_alone ts → Several ts
+    group_several x ts h e = are_several ts (sym e ∙ (types is w a xs n p x h).several)
 
     pub sync_fits : (ts : Trees) → At is w a xs n p (t.Shape.sync ts) →
         Fits (up is) (s.tuple (sorts (sorts_at (program is arrays events) (sorted is) ts))) (sort_of (ty_at is n))

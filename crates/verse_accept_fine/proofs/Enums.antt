@@ -1,7 +1,8 @@
 -- The values of enums behind a dot.
-use Rattle.std.proofs.Common.{◌≡◌, ℕ, zero, suc, ◌+◌, Bool, true, false, cond, bytes_eq, List, [], ◌∷◌, ◌++◌, refl, sym, ap, ◌∙◌}
+use Rattle.std.proofs.Common.{◌≡◌, ℕ, zero, suc, ◌+◌, Bool, true, false, cond, bytes_eq, List, [], ◌∷◌, refl, sym, ap, ◌∙◌}
 use Rattle.std.proofs.Common.{inl, inr}
 use Rattle.std.specs.Prelude.{Some, slice_get, ◌⊎◌}
+use Rattle.std.proofs.lemmas.Bool.{not-false}
 use Rattle.verse_base.specs.declared.places.Place.{Place}
 use Rattle.verse_tree.specs.Tree.{Bytes, tree, Shape}
 use Rattle.verse_tree.specs.Tree as t
@@ -16,41 +17,21 @@ use Rattle.verse_check_typing.specs.Sets.{has_name, with_name, with_names}
 use Rattle.verse_check_typing.specs.Facts.{Facts, type_of, enum_values}
 use Rattle.verse_check_typing.specs.Members.{part, missing, part_type, may_stand, names_in, is_value, member_of}
 use Rattle.verse_check_typing.specs.TypeRules.{is_called}
+use Rattle.verse_check_typing.proofs.MoreNames.{has_with}
 use Rattle.verse_value.specs.Val as v
 use Rattle.verse_meaning_state.specs.Waits.{nth}
 use Rattle.verse_meaning.specs.Programs.{same_name, place_of, one_further, enums, value_in, enum_val}
 use Rattle.verse_meaning.specs.Evaluating.{enum_member, is_enum}
+use Rattle.verse_meaning.proofs.Names.{same_bytes}
 use Rattle.verse_sorts.specs.Sorts as s
 use Rattle.verse_sorts.specs.Sorts.{Fits}
 use Rattle.verse_sorts.proofs.Fitting.{fits_itself}
 use Rattle.verse_sorts_types.specs.SortOf.{sort_of}
 use Rattle.verse_accept_rows.specs.Found.{final}
-use Rattle.verse_accept_classes.proofs.Names.{same_bytes}
 use Rattle.verse_accept_fine.specs.Sorted.{At, ty_at, up, program}
-use Rattle.verse_accept_fine.proofs.Rules.{not_not}
 use Rattle.verse_accept_fine.proofs.Base.{its_row, of_row, same_known, types}
 
 -- ---- the names of values, as a set and by their places
-
-last_name : (x y : Bytes) (xs : List Bytes) → has_name x (xs ++ y ∷ []) ≡ true → (has_name x xs ≡ true) ⊎ (bytes_eq x y ≡ true)
-last_name x y [] h = by (bytes_eq x y) refl h
-  where
-    by : (q : Bool) → bytes_eq x y ≡ q → cond q true false ≡ true → (has_name x [] ≡ true) ⊎ (bytes_eq x y ≡ true)
-    by true e h = inr e
-    by false e h = absurd (cc)
-last_name x y (z ∷ xs) h = by (bytes_eq x z) h (last_name x y xs)
-  where
-    by : (q : Bool) → cond q true (has_name x (xs ++ y ∷ [])) ≡ true → (has_name x (xs ++ y ∷ []) ≡ true →
-        (has_name x xs ≡ true) ⊎ (bytes_eq x y ≡ true)) → (cond q true (has_name x xs) ≡ true) ⊎ (bytes_eq x y ≡ true)
-    by true h f = inl refl
-    by false h f = f h
-
-more_name : (x y : Bytes) (xs : List Bytes) → has_name x (with_name y xs) ≡ true → (has_name x xs ≡ true) ⊎ (bytes_eq x y ≡ true)
-more_name x y xs h = by (has_name y xs) h
-  where
-    by : (q : Bool) → has_name x (cond q xs (xs ++ y ∷ [])) ≡ true → (has_name x xs ≡ true) ⊎ (bytes_eq x y ≡ true)
-    by true h = inl h
-    by false h = last_name x y xs h
 
 -- a name has a place
 abbrev Placed : Bytes → List Bytes → Type 0
@@ -75,7 +56,7 @@ placed_of x (y ∷ ys) xs h = by (placed_of x ys (with_name y xs) h)
     one (inr e) = inr (placed_first x y ys e)
 
     by : (has_name x (with_name y xs) ≡ true) ⊎ Placed x ys → (has_name x xs ≡ true) ⊎ Placed x (y ∷ ys)
-    by (inl h) = one (more_name x y xs h)
+    by (inl h) = one (has_with x y xs h)
     by (inr p) = inr (placed_later x y ys p)
 
 place_found : (x : Bytes) (ys : List Bytes) → has_name x (with_names ys []) ≡ true → Placed x ys
@@ -115,7 +96,7 @@ module _ (is : List ItemTree) (arrays events : ℕ → Bool) (w : World) (a : Ar
       (i : ℕ) × (enum_member (program is arrays events) (tree m o z) x ≡ Some (v.enum e i)) × Fits (up is) (s.enum e) (sort_of (ty_at is n))
   enum_gives m o z x e h r =
       let u = type_of F (tree m o z) in
-      let stands = not_not _ (types is w a xs n p (t.Shape.member (tree m o z) x) h).member in
+      let stands = not-false _ (types is w a xs n p (t.Shape.member (tree m o z) x) h).member in
       let value : is_value F e x ≡ true =
       value_stands (is_called a.used) e x (ap (λ k. may_stand (is_called a.used) (member_of F k u x)) (sym r) ∙ stands) in
       let found = value_found is e e x value in

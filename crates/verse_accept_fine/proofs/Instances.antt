@@ -1,12 +1,14 @@
 -- Instances: each field is given, or has a default.
-use Rattle.std.proofs.Common.{◌≡◌, ℕ, zero, suc, ◌+◌, Bool, true, false, cond, ◌||◌, nat_eq, List, [], ◌∷◌, ◌++◌, map, length, ◌<◌}
+use Rattle.std.proofs.Common.{◌≡◌, ℕ, suc, ◌+◌, Bool, true, false, cond, ◌||◌, nat_eq, List, [], ◌∷◌, ◌++◌, map, length, ◌<◌}
 use Rattle.std.proofs.Common.{Option, refl, sym, subst, ap, ◌∙◌, arith, inl, inr}
 use Rattle.std.proofs.lemmas.Bool.Decides.{nat_tests}
 use Rattle.std.proofs.lemmas.List.{length-map}
 use Rattle.std.proofs.lemmas.Option.{slice_get_within}
 use Rattle.std.proofs.lemmas.Slice.Eq.{bytes_eq-Decides}
 use Rattle.std.specs.Prelude.{Some, None, slice_get, ◌⊎◌, option_map}
+use Rattle.std.proofs.lemmas.Bool.{not-false, or_cases}
 use Rattle.verse_base.specs.declared.places.Place.{Place}
+use Rattle.verse_base.proofs.Facts.{and_first, and_second, get_mapped}
 use Rattle.verse_tree.specs.Tree.{Bytes, Tree, tree, Givens, no_givens, more_givens}
 use Rattle.verse_tree.specs.Tree as t
 use Rattle.verse_tree.specs.ItemTree.{FieldTree, ItemTree}
@@ -27,11 +29,12 @@ use Rattle.verse_check_typing.specs.Members.{is_place}
 use Rattle.verse_check_typing.specs.Members.{has_default, all_given, has_all}
 use Rattle.verse_check_typing.specs.Rows.{class_type}
 use Rattle.verse_check_typing.specs.TypeRules.{on_class, is_class}
-use Rattle.verse_meaning_state.specs.Waits.{nth}
+use Rattle.verse_meaning_state.proofs.Numbers.{nth_is}
 use Rattle.verse_meaning.specs.Programs as programs
 use Rattle.verse_meaning.specs.Programs.{same_name, given_names}
 use Rattle.verse_meaning.specs.Residuals as form
 use Rattle.verse_meaning.specs.Evaluating.{class_ref}
+use Rattle.verse_meaning.proofs.Names.{same_bytes, name_same}
 use Rattle.verse_sorts.specs.Sorts as s
 use Rattle.verse_sorts.specs.Sorts.{Sort, Fits}
 use Rattle.verse_sorts.specs.Typing.{at}
@@ -46,19 +49,9 @@ use Rattle.verse_accept_rows.specs.Found.{final}
 use Rattle.verse_accept_classes.specs.Referring.{IsThere, Names}
 use Rattle.verse_accept_classes.specs.Referring as items
 use Rattle.verse_accept_classes.specs.Laws.{Quiet, FieldsAgree, FieldNamesAgree, NamesAgree, info_of}
-use Rattle.verse_accept_classes.proofs.Names.{same_bytes}
 use Rattle.verse_accept_fine.specs.Sorted.{At, ty_at, all_classes, up, field_sort, sorted, program}
-use Rattle.verse_accept_fine.proofs.Rules.{not_not, and_left, and_right}
 use Rattle.verse_accept_fine.proofs.Base.{its_row, is_row, same_known, types}
-use Rattle.verse_accept_fine.proofs.Names.{get_map, get_map_slice}
-
-nth_is : {A : Type 0} (xs : List A) (n : ℕ) → nth xs n ≡ slice_get xs n
-nth_is [] n = refl
-nth_is (x ∷ xs) zero = refl
-nth_is (x ∷ xs) (suc n) = nth_is xs n
-
-same_is : (x y : Bytes) → same_name x y ≡ true → x ≡ y
-same_is x y h = (bytes_eq-Decides x y).0 (same_bytes x y ∙ h)
+use Rattle.verse_accept_fine.proofs.Names.{get_map}
 
 same_itself : (x y : Bytes) → x ≡ y → same_name x y ≡ true
 same_itself x y h = sym (same_bytes x y) ∙ (bytes_eq-Decides x y).1 h
@@ -84,10 +77,6 @@ more_number i j ms h = by (has_number j ms) h
     by true h = inl h
     by false h = last_number i j ms h
 
-or_cases : (q r : Bool) → (q || r) ≡ true → (q ≡ true) ⊎ (r ≡ true)
-or_cases true r h = inl refl
-or_cases false r h = inr h
-
 module _ (is : List ItemTree) (arrays events : ℕ → Bool) where
   abbrev F : Facts
   F = final is
@@ -98,7 +87,7 @@ module _ (is : List ItemTree) (arrays events : ℕ → Bool) where
       Fits (up is) q (sort_of (field_type F c i))
   given_fits c i x q no_givens h e g = absurd (cc)
   given_fits c i x q (more_givens y (tree n p z) gs) h e g =
-      by (same_name x y) refl g (given_fits c i x q gs (and_right (fits_field F c (type_of F (tree n p z)) (field_by F c y))
+      by (same_name x y) refl g (given_fits c i x q gs (and_second (fits_field F c (type_of F (tree n p z)) (field_by F c y))
       (givens_fit F c gs) h) e)
     where
       by : (b : Bool) → same_name x y ≡ b →
@@ -108,9 +97,9 @@ module _ (is : List ItemTree) (arrays events : ℕ → Bool) where
           Fits (up is) q (sort_of (field_type F c i))) → Fits (up is) q (sort_of (field_type F c i))
       by true k g f =
           let own : sort_of (ty_at is n) ≡ q = cc in
-          let named : field_by F c y ≡ Some i = ap (field_by F c) (sym (same_is x y k)) ∙ e in
+          let named : field_by F c y ≡ Some i = ap (field_by F c) (sym (name_same x y k)) ∙ e in
           let fit : fits (all_classes is) (type_of F (tree n p z)) (field_type F c i) ≡ true =
-          ap (fits_field F c (type_of F (tree n p z))) (sym named) ∙ and_left _ (givens_fit F c gs) h in
+          ap (fits_field F c (type_of F (tree n p z))) (sym named) ∙ and_first _ (givens_fit F c gs) h in
           subst (λ r. Fits (up is) r (sort_of (field_type F c i))) own
           (fitting.fits_sort (all_classes is) (type_of F (tree n p z)) (field_type F c i) fit)
       by false k g f = f g
@@ -170,7 +159,7 @@ module _ (is : List ItemTree) (arrays events : ℕ → Bool) where
     all = items.fields_of is c
 
     info_at : (i : ℕ) (d : FieldTree) → slice_get all i ≡ Some d → slice_get (fields_of F c) i ≡ Some (info_of is d)
-    info_at i d e = ap (λ l. slice_get l i) (agree is quiet c) ∙ get_map_slice (info_of is) all i d e
+    info_at i d e = ap (λ l. slice_get l i) (agree is quiet c) ∙ get_mapped (info_of is) all i d e
 
     same_field : (i : ℕ) (d e : FieldTree) → slice_get all i ≡ Some d → slice_get all i ≡ Some e → d ≡ e
     same_field i d e h g = let both : Some d ≡ Some e = sym h ∙ g in cc
@@ -216,9 +205,9 @@ module _ (is : List ItemTree) (arrays events : ℕ → Bool) where
     all_filled i [] f h = filled_no
     all_filled i (d ∷ ds) f h =
         let at : slice_get all i ≡ Some d = ap (slice_get all) (let same : i ≡ i + 0 = omega arith in same) ∙ f 0 in
-        field_filled i d ds (map field_sort (map (info_of is) ds)) at (and_left _ _ h)
+        field_filled i d ds (map field_sort (map (info_of is) ds)) at (and_first _ _ h)
         (all_filled (i + 1) ds (λ j. ap (slice_get all) (let same : (i + 1) + j ≡ i + suc j = omega arith in same) ∙ f (suc j))
-        (and_right (has_default (info_of is d) || has_number i (places_from F c [] gs)) _ h))
+        (and_second (has_default (info_of is d) || has_number i (places_from F c [] gs)) _ h))
 
     pub filled : has_all F c gs ≡ true → Filled (program is arrays events) (sorted is) ys qs all ((sorted is).slots c)
     filled h =
@@ -265,7 +254,7 @@ module _ (is : List ItemTree) (arrays events : ℕ → Bool) where
         let ref_is : refs.ref_at (Rattle.verse_rules.specs.Naming.named is).refs n ≡ v = h.named in
         let kept = types is w a xs n p (t.Shape.instance x gs) h in
         instance_by x gs v (same_known (slice_get F.refs n) ∙ h.ref ∙ ref_is) refl (λ r e. names.names n xs h.stands.locals x r e)
-        (ap is_class (sym ref_is) ∙ not_not _ kept.callable)
-        (ap (λ o. on_class o (λ c. givens_fit F c gs)) (sym ref_is) ∙ not_not _ kept.matched)
-        (ap (λ o. on_class o (λ c. has_all F c gs)) (sym ref_is) ∙ not_not _ kept.given)
+        (ap is_class (sym ref_is) ∙ not-false _ kept.callable)
+        (ap (λ o. on_class o (λ c. givens_fit F c gs)) (sym ref_is) ∙ not-false _ kept.matched)
+        (ap (λ o. on_class o (λ c. has_all F c gs)) (sym ref_is) ∙ not-false _ kept.given)
         (its_row is w a xs n p (t.Shape.instance x gs) h ∙ ap class_type ref_is)

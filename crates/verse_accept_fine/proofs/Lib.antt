@@ -1,5 +1,6 @@
 pub mod Rules
 pub mod Base
+pub mod Known
 pub mod Operators
 pub mod Control
 pub mod Arms

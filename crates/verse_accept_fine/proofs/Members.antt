@@ -2,6 +2,7 @@
 use Rattle.std.proofs.Common.{◌≡◌, ℕ, zero, suc, ◌+◌, ◌<◌, Bool, true, false, cond, ◌||◌, bytes_eq, List, [], ◌∷◌, length}
 use Rattle.std.proofs.Common.{Option, refl, sym, subst, ap, ◌∙◌, arith}
 use Rattle.std.specs.Prelude.{Some, None, slice_get, codes}
+use Rattle.std.proofs.lemmas.Bool.{not-false}
 use Rattle.verse_base.specs.declared.places.Place.{Place}
 use Rattle.verse_tree.specs.Tree.{Bytes, Tree, tree, Shape}
 use Rattle.verse_tree.specs.Tree as t
@@ -27,6 +28,7 @@ use Rattle.verse_meaning.specs.Programs as programs
 use Rattle.verse_meaning.specs.Programs.{same_name}
 use Rattle.verse_meaning.specs.Residuals as form
 use Rattle.verse_meaning.specs.Evaluating.{member_form, length_name}
+use Rattle.verse_meaning.proofs.Names.{same_bytes}
 use Rattle.verse_sorts.specs.Sorts as s
 use Rattle.verse_sorts.specs.Sorts.{Sort}
 use Rattle.verse_sorts.proofs.Fitting.{fits_itself, all_itself}
@@ -37,10 +39,8 @@ use Rattle.verse_sound_rules.specs.Forms.{Gives}
 use Rattle.verse_sound_rules.specs.Forms as takes
 use Rattle.verse_accept_rows.specs.Found.{final}
 use Rattle.verse_accept_classes.specs.Laws.{Quiet, FieldsAgree, FieldNamesAgree}
-use Rattle.verse_accept_classes.proofs.Names.{same_bytes}
 use Rattle.verse_accept_fine.specs.Needs.{NoEnum}
 use Rattle.verse_accept_fine.specs.Sorted.{At, ty_at, up, sorted, program, Allows}
-use Rattle.verse_accept_fine.proofs.Rules.{not_not}
 use Rattle.verse_accept_fine.proofs.Base.{types, its_row, is_row, same_known}
 use Rattle.verse_accept_fine.proofs.Names.{slot_of}
 
@@ -150,7 +150,7 @@ module _ (is : List ItemTree) (arrays events : ℕ → Bool) (agree : FieldsAgre
         let only = type_only (refs.ref_at F.refs (number_of_tree e)) u x plain in
         let stands : may_stand false (type_member F u x) ≡ true =
         ap (λ q. may_stand q (type_member F u x)) (sym free) ∙ ap (may_stand (is_called a.used)) (sym only)
-        ∙ not_not _ (types is w a xs n p (t.Shape.member e x) h).member in
+        ∙ not-false _ (types is w a xs n p (t.Shape.member e x) h).member in
         let own : ty_at is n ≡ part_type (type_member F u x) = its_row is w a xs n p (t.Shape.member e x) h ∙ ap part_type only in
         let known_ref : programs.ref_at (program is arrays events) n ≡ member_ref F u x = same_known (slice_get F.refs n) ∙ h.ref in
         subst (λ o. Give (member_form o x) (sort_of u ∷ [])) (sym known_ref) (by_type u x stands own)

@@ -3,6 +3,7 @@ use Rattle.std.proofs.Common.{◌≡◌, ℕ, zero, suc, ◌-◌, Bool, true, fa
 use Rattle.std.proofs.Common.{Option, refl, sym, subst, ap, ◌∙◌}
 use Rattle.std.specs.Prelude.{Some, None, slice_get, is_some, is_none}
 use Rattle.verse_base.specs.declared.places.Place.{Place}
+use Rattle.verse_base.proofs.Facts.{get_mapped, none_is, and_first, and_second}
 use Rattle.verse_tree.specs.Tree.{Bytes, Written, Tree, tree, Shape}
 use Rattle.verse_tree.specs.Tree as t
 use Rattle.verse_tree.specs.ItemTree.{ItemTree}
@@ -51,10 +52,6 @@ use Rattle.verse_accept_fine.proofs.Base.{its_row, of_row, is_row, same_known}
 
 -- ---- names that are new
 
-pub none_is : {A : Type 0} (o : Option A) → is_some o ≡ false → o ≡ None
-none_is None h = refl
-none_is (Some x) h = cc
-
 pub some_is : {A : Type 0} (o : Option A) → is_none o ≡ false → (x : A) × (o ≡ Some x)
 some_is None h = cc
 some_is (Some x) h = (x, refl)
@@ -76,11 +73,6 @@ get_map f [] i x e = cc
 get_map f (y ∷ xs) zero x e = let same : y ≡ x = cc in ap (λ z. Some (f z)) same
 get_map f (y ∷ xs) (suc i) x e = get_map f xs i x e
 
-pub get_map_slice : {A B : Type 0} (f : A → B) (xs : List A) (i : ℕ) (x : A) → slice_get xs i ≡ Some x → slice_get (map f xs) i ≡ Some (f x)
-get_map_slice f [] i x e = cc
-get_map_slice f (y ∷ xs) zero x e = let same : y ≡ x = cc in ap (λ z. Some (f z)) same
-get_map_slice f (y ∷ xs) (suc i) x e = get_map_slice f xs i x e
-
 module _ (is : List ItemTree) (arrays events : ℕ → Bool) where
   abbrev F : Facts
   F = final is
@@ -90,7 +82,7 @@ module _ (is : List ItemTree) (arrays events : ℕ → Bool) where
       at ((sorted is).slots c) i ≡ Some (sort_of (field_type F c i))
   slot_of agree quiet c i h =
       let there : slice_get (fields_of F c) i ≡ Some (info_of is h.tree) =
-      ap (λ l. slice_get l i) (agree is quiet c) ∙ get_map_slice (info_of is) (items.fields_of is c) i h.tree h.there in
+      ap (λ l. slice_get l i) (agree is quiet c) ∙ get_mapped (info_of is) (items.fields_of is c) i h.tree h.there in
       get_map field_sort (fields_of F c) i (info_of is h.tree) there
       ∙ ap (λ o. Some (sort_of (type_in o))) (sym there)
 
@@ -263,8 +255,8 @@ module _ (is : List ItemTree) (arrays events : ℕ → Bool) where
         (type_of F f)) s.no_sorts))) (of_range x)
     range_generates x e f h k d =
         fine.takes_range (new_by x (no_rule (rules_at w xs (subject n (t.Shape.range x e f))) h.names 0 _ refl) k) h.var
-        (s.fits_tuple (s.fit_more (ints (type_of F e) (Rattle.verse_accept_fine.proofs.Rules.and_left (is_int (type_of F e)) _ d))
-        (s.fit_more (ints (type_of F f) (Rattle.verse_accept_fine.proofs.Rules.and_right (is_int (type_of F e)) _ d)) s.fit_none)))
+        (s.fits_tuple (s.fit_more (ints (type_of F e) (and_first (is_int (type_of F e)) _ d))
+        (s.fit_more (ints (type_of F f) (and_second (is_int (type_of F e)) _ d)) s.fit_none)))
         (of_row is n s.int ty.int (its_row is w a xs n p (t.Shape.range x e f) h) s.fits_int)
       where
         ints : (u : Ty) → is_int u ≡ true → Fits (up is) (sort_of u) s.int

@@ -1,7 +1,9 @@
 -- Operators, literals and values that are made: what their forms need.
 use Rattle.std.proofs.Common.{◌≡◌, ℕ, Bool, true, false, ◌||◌, List, [], ◌∷◌, Option, refl, sym, subst, ap}
 use Rattle.std.specs.Prelude.{Some, None}
+use Rattle.std.proofs.lemmas.Bool.{not-false}
 use Rattle.verse_base.specs.declared.places.Place.{Place}
+use Rattle.verse_base.proofs.Facts.{and_first, and_second, guarded}
 use Rattle.verse_tree.specs.Tree.{Bytes, Tree, tree, Shape, Trees, no_trees, more_trees, Holes, no_holes, more_holes, Pairs}
 use Rattle.verse_tree.specs.Tree.{no_pairs, more_pairs}
 use Rattle.verse_tree.specs.Tree as t
@@ -33,11 +35,10 @@ use Rattle.verse_sorts_values.specs.Operands.{Shown, shows_int, shows_char, show
 use Rattle.verse_sound_rules.specs.Found.{Allowed}
 use Rattle.verse_sound_rules.specs.Forms.{Gives}
 use Rattle.verse_sound_rules.specs.Forms as takes
-use Rattle.verse_sound_rules.specs.Fine.{sort_at, sorts_at, hole_sorts, pair_sorts, last_sort}
+use Rattle.verse_sound_rules.specs.Fine.{sort_at, sorts_at, hole_sorts, pair_sorts, last_sort, PairsFit, IsMap, is_map}
 use Rattle.verse_accept_rows.specs.Found.{final}
 use Rattle.verse_accept_fine.specs.Sorted.{At, ty_at, all_classes, up, sorted, program, Allows}
-use Rattle.verse_accept_fine.proofs.Rules.{not_not, guarded, and_left, and_right}
-use Rattle.verse_accept_fine.proofs.Base.{types, effects, its_row, is_row}
+use Rattle.verse_accept_fine.proofs.Base.{types, effects, its_row, its_sort, is_row}
 
 module _ (is : List ItemTree) (arrays events : ℕ → Bool) where
   abbrev F : Facts
@@ -111,6 +112,17 @@ module _ (is : List ItemTree) (arrays events : ℕ → Bool) where
       fit_so (fits_on (up is) (join_both (all_classes is) k (type_of F (tree n p x))).1 (keys_grow k2 ps))
       (fit_so (fits_on (up is) (join_both (all_classes is) v (type_of F (tree m q y))).1 (values_grow v2 ps)) (pairs_fit k2 v2 ps))
 
+  each_pair : (k v : Ty) (ps : Pairs) →
+      PairsFit (program is arrays events) (sorted is) (sort_of (keys_from F k ps)) (sort_of (values_from F v ps)) ps
+  each_pair k v no_pairs = tt
+  each_pair k v (more_pairs (tree n p x) (tree m q y) ps) =
+      let k2 = join (all_classes is) k (type_of F (tree n p x)) in
+      let v2 = join (all_classes is) v (type_of F (tree m q y)) in (
+        fits_on (up is) (join_both (all_classes is) k (type_of F (tree n p x))).1 (keys_grow k2 ps),
+        fits_on (up is) (join_both (all_classes is) v (type_of F (tree m q y))).1 (values_grow v2 ps),
+        each_pair k2 v2 ps,
+      )
+
   pub key_sort : (u : Ty) → is_key u ≡ true → IsKey (sort_of u)
   key_sort ty.never h = s.key_never
   key_sort ty.nil h = s.key_nil
@@ -158,8 +170,8 @@ module _ (is : List ItemTree) (arrays events : ℕ → Bool) where
   texts_of : (hs : Holes) → have_texts F hs ≡ true → Texts hs
   texts_of no_holes h = record { shown = []; fit = fit_no; are = shown_no }
   texts_of (more_holes (tree n p x) bs hs) h =
-      let one = text_of (type_of F (tree n p x)) (and_left (has_text (all_classes is) (type_of F (tree n p x))) (have_texts F hs) h) in
-      let rest = texts_of hs (and_right (has_text (all_classes is) (type_of F (tree n p x))) (have_texts F hs) h) in
+      let one = text_of (type_of F (tree n p x)) (and_first (has_text (all_classes is) (type_of F (tree n p x))) (have_texts F hs) h) in
+      let rest = texts_of hs (and_second (has_text (all_classes is) (type_of F (tree n p x))) (have_texts F hs) h) in
       record { shown = one.shown ∷ rest.shown; fit = fit_so one.fits rest.fit; are = shown_so one.has rest.are }
 
   -- ---- numbers
@@ -235,20 +247,29 @@ module _ (is : List ItemTree) (arrays events : ℕ → Bool) where
     mapping_gives ps h =
         let k = keys_from F ty.never ps in
         let v = values_from F ty.never ps in
-        let keys = not_not (has_keys (ty.mapping k v)) (types is w a xs n p (t.Shape.mapping ps) h).keyed in
+        let keys = not-false (has_keys (ty.mapping k v)) (types is w a xs n p (t.Shape.mapping ps) h).keyed in
         record {
           no_case = tt;
           taken = pairs_alike (sort_of k) (sort_of v) ps;
           given = s.map (sort_of k) (sort_of v);
           operands = pairs_fit ty.never ty.never ps;
-          takes = takes.takes_map (key_sort k (and_left (is_key k) (has_keys v) keys)) (all_entries (sort_of k) (sort_of v) ps);
+          takes = takes.takes_map (key_sort k (and_first (is_key k) (has_keys v) keys)) (all_entries (sort_of k) (sort_of v) ps);
           value = is_row is n _ (its_row is w a xs n p (t.Shape.mapping ps) h);
         }
+
+    pub mapping_is : (ps : Pairs) → At is w a xs n p (t.Shape.mapping ps) →
+        IsMap (program is arrays events) (sorted is) (sort_of (ty_at is n)) ps
+    mapping_is ps h =
+        let k = keys_from F ty.never ps in
+        let v = values_from F ty.never ps in
+        let keys = not-false (has_keys (ty.mapping k v)) (types is w a xs n p (t.Shape.mapping ps) h).keyed in
+        subst (λ q. IsMap (program is arrays events) (sorted is) q ps) (sym (its_sort is w a xs n p (t.Shape.mapping ps) h))
+        (is_map (key_sort k (and_first (is_key k) (has_keys v) keys)) (each_pair ty.never ty.never ps))
 
     pub holes_gives : (x : Bytes) (hs : Holes) → At is w a xs n p (t.Shape.holes x hs) →
         Give (form.joining (x ∷ pieces hs) p) (hole_sorts (program is arrays events) (sorted is) hs)
     holes_gives x hs h =
-        let texts = texts_of hs (not_not (have_texts F hs) (types is w a xs n p (t.Shape.holes x hs) h).matched) in
+        let texts = texts_of hs (not-false (have_texts F hs) (types is w a xs n p (t.Shape.holes x hs) h).matched) in
         record {
           no_case = tt;
           taken = texts.shown;
@@ -266,7 +287,7 @@ module _ (is : List ItemTree) (arrays events : ℕ → Bool) where
           no_case = tt;
           taken = s.int ∷ [];
           given = s.int;
-          operands = fit_so (int_fits (type_of F e) (not_not (is_int (type_of F e)) (types is w a xs n p
+          operands = fit_so (int_fits (type_of F e) (not-false (is_int (type_of F e)) (types is w a xs n p
               (t.Shape.minus e) h).matched)) fit_no;
           takes = takes.takes_minus;
           value = is_row is n _ (its_row is w a xs n p (t.Shape.minus e) h);
@@ -315,5 +336,5 @@ module _ (is : List ItemTree) (arrays events : ℕ → Bool) where
         Give form.querying (sort_of (type_of F e) ∷ [])
     query_gives (tree m q y) h =
         let e = tree m q y in
-        query_by m (ty_at is m) ty.never refl (not_not (can_query (type_of F e)) (types is w a xs n p (t.Shape.query e) h).matched)
+        query_by m (ty_at is m) ty.never refl (not-false (can_query (type_of F e)) (types is w a xs n p (t.Shape.query e) h).matched)
         (its_row is w a xs n p (t.Shape.query e) h) (caught (t.Shape.query e) h refl)

@@ -1,5 +1,5 @@
 -- The rules of a form, each of them kept.
-use Rattle.std.proofs.Common.{◌≡◌, ℕ, Bool, true, false, not, ◌&&◌, ◌||◌, List, refl}
+use Rattle.std.proofs.Common.{◌≡◌, ℕ, Bool, true, false, ◌||◌, List, refl}
 use Rattle.std.specs.Prelude.{None}
 use Rattle.verse_tree.specs.Tree.{Shape}
 use Rattle.verse_tree.specs.declared.tables.Names.{Names}
@@ -74,19 +74,6 @@ effects_kept k vars a n x h =
 
 -- ---- tests
 
-pub not_not : (b : Bool) → not b ≡ false → b ≡ true
-not_not true h = refl
-not_not false h = cc
-
-pub both_false : (a b : Bool) → (a && b) ≡ false → a ≡ true → b ≡ false
-both_false true b h e = h
-both_false false b h e = cc
-
-pub guarded : (a b : Bool) → (a && not b) ≡ false → a ≡ true → b ≡ true
-guarded true true h e = refl
-guarded true false h e = cc
-guarded false b h e = cc
-
 pub or_left : (a b : Bool) → (a || b) ≡ false → a ≡ false
 or_left true b h = cc
 or_left false b h = refl
@@ -94,11 +81,3 @@ or_left false b h = refl
 pub or_right : (a b : Bool) → (a || b) ≡ false → b ≡ false
 or_right true b h = cc
 or_right false b h = h
-
-pub and_left : (a b : Bool) → (a && b) ≡ true → a ≡ true
-and_left true b h = refl
-and_left false b h = cc
-
-pub and_right : (a b : Bool) → (a && b) ≡ true → b ≡ true
-and_right true b h = h
-and_right false b h = cc

@@ -21,7 +21,7 @@ use Rattle.verse_check_typing.specs.Parts.{are_ints}
 use Rattle.verse_check_typing.specs.Loops.{is_domain}
 use Rattle.verse_check_typing.specs.Rows.{spelled}
 use Rattle.verse_check_typing.specs.Refs as refs
-use Rattle.verse_check_typing.specs.TypeRules.{has_value, is_called}
+use Rattle.verse_check_typing.specs.TypeRules.{has_value, is_called, alone, is_alone}
 use Rattle.verse_effects.specs.Forms.{is_async, is_spawned}
 use Rattle.verse_rules.specs.Sound.{completed}
 use Rattle.verse_value.specs.Val as v
@@ -39,7 +39,7 @@ use Rattle.verse_sound_rules.specs.Found.{Allowed}
 use Rattle.verse_sound_rules.specs.Found as allowed
 use Rattle.verse_sound_rules.specs.Forms.{NameIs, Gives}
 use Rattle.verse_sound_rules.specs.Fine.{sorts_at, hole_sorts, pair_sorts, given_sorts, last_sort}
-use Rattle.verse_sound_rules.specs.Fine.{ArmFits, Defines, Generates}
+use Rattle.verse_sound_rules.specs.Fine.{Several, IsMap, ArmFits, Defines, Generates}
 use Rattle.verse_accept_scopes.specs.Holding.{OnArguments}
 use Rattle.verse_accept_rows.specs.Found.{final, Found}
 use Rattle.verse_accept_classes.specs.Referring.{Names, IsFunction, IsMethod}
@@ -104,13 +104,14 @@ module _ (is : List ItemTree) (arrays events : ℕ → Bool) where
           Give (form.making_array p) (sorts_at (program is arrays events) (sorted is) ts)
       pub mapping : (ps : Pairs) → Is (t.Shape.mapping ps) →
           Give (form.making_map p) (pair_sorts (program is arrays events) (sorted is) ps)
+      pub is_map : (ps : Pairs) → Is (t.Shape.mapping ps) →
+          IsMap (program is arrays events) (sorted is) own ps
       pub holes : (x : Bytes) (hs : Holes) → Is (t.Shape.holes x hs) →
           Give (form.joining (x ∷ pieces hs) p)
           (hole_sorts (program is arrays events) (sorted is) hs)
       pub minus : (e : Tree) → Is (t.Shape.minus e) → Give (form.negating p) (part e ∷ [])
       pub query : (e : Tree) → Is (t.Shape.query e) → Give form.querying (part e ∷ [])
-      pub both : (v : Bool) (e f : Tree) → Is (t.Shape.chained op.And e f) →
-          Give (form.computing op.And v p) (part e ∷ part f ∷ [])
+      pub both : (e f : Tree) → Is (t.Shape.chained op.And e f) → Fits (up is) (part f) own
       pub sum : (e f : Tree) → Is (t.Shape.chained op.Add e f) →
           arrays n ≡ is_array_type (ty_at is n) →
           Give (form.computing op.Add (arrays n) p) (part e ∷ part f ∷ [])
@@ -135,6 +136,8 @@ module _ (is : List ItemTree) (arrays events : ℕ → Bool) where
           Fits (up is) s.unit own
       pub waits : (x : Shape) → Is x → is_async (completed is) a x ≡ true → b.waits ≡ true
       pub untried : (x : Shape) → Is x → is_async (completed is) a x ≡ true → a.is_tried ≡ false
+      -- a group, whose arms are these
+      pub several : (x : Shape) (ts : Trees) → Is x → alone x ≡ is_alone ts → Several ts
       pub sync : (ts : Trees) → Is (t.Shape.sync ts) →
           Fits (up is) (s.tuple (sorts (sorts_at (program is arrays events) (sorted is) ts))) own
       pub race : (ts : Trees) → Is (t.Shape.race ts) → EachFits own ts

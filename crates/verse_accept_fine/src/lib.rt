@@ -2,9 +2,9 @@
 //! finds at their nodes. Read `Sorted`, what is found as sorts and what is allowed at a node, and
 //! `Needs`, form by form.
 //!
-//! In `proofs/`: `Rules`, each rule of a form; `Base`, what is found at an expression; `Operators`,
-//! `Control`, `Arms`, `Names`, `Members`, `Enums`, `Instances` and `Calls`, the forms; `Whole`, the
-//! laws.
+//! In `proofs/`: `Rules`, each rule of a form; `Base`, what is found at an expression; `Known`,
+//! sorts that are found are known; `Operators`, `Control`, `Arms`, `Names`, `Members`, `Enums`,
+//! `Instances` and `Calls`, the forms; `Whole`, the laws.
 #![tactic(auto)]
 
 ghost use Rattle.verse_accept_fine.specs.Needs.{

@@ -1,12 +1,13 @@
 -- Calls and indices: what their forms need.
-use Rattle.std.proofs.Common.{◌≡◌, ℕ, zero, suc, ℤ, Bool, true, false, not, cond, ◌&&◌, nat_eq, List, [], ◌∷◌, Option, length}
+use Rattle.std.proofs.Common.{◌≡◌, ℕ, zero, suc, Bool, true, false, not, cond, ◌&&◌, List, [], ◌∷◌, Option}
 use Rattle.std.proofs.Common.{refl, sym, subst, ap, ◌∙◌}
 use Rattle.std.specs.Prelude.{Some, None, pos, negsuc}
+use Rattle.std.proofs.lemmas.Bool.{not-false}
 use Rattle.verse_base.specs.declared.places.Place.{Place}
+use Rattle.verse_base.proofs.Facts.{and_first, and_second}
 use Rattle.verse_tree.specs.Tree.{Tree, tree, Shape, Trees, no_trees, more_trees}
 use Rattle.verse_tree.specs.Tree as t
 use Rattle.verse_tree.specs.ItemTree.{ItemTree}
-use Rattle.verse_tree.specs.declared.exprs.Operator.{Operator}
 use Rattle.verse_tree.specs.declared.exprs.Operator.TheVariants as op
 use Rattle.verse_rules_types.specs.Types.{Ty, Tys}
 use Rattle.verse_rules_types.specs.Types as ty
@@ -18,26 +19,22 @@ use Rattle.verse_names_scopes.specs.Visible.{World}
 use Rattle.verse_check_typing.specs.Facts.{Facts, type_of, or_never}
 use Rattle.verse_check_typing.specs.Keys.{has_keys}
 use Rattle.verse_check_typing.specs.Parts.{count, first_from, is_int, is_void, are_ints}
-use Rattle.verse_check_typing.specs.Parts as parts
 use Rattle.verse_check_typing.specs.Callees as types
 use Rattle.verse_check_typing.specs.Calls.{are_wanted, call_wanted, call_type, index_wanted, index_type, arguments_fit, indices_fit}
 use Rattle.verse_check_typing.specs.Calls.{can_call}
 use Rattle.verse_check_typing.specs.Calls.{can_stand_indexed, can_index, would_fit, would_be_quotient, element_of, has_item, item_of}
 use Rattle.verse_check_typing.specs.Calls.{has_called_item, takes_one_item, takes_one_index, is_there, ty_by, tree_place, ty_at as type_in}
-use Rattle.verse_check_typing.specs.Steps.{params_at}
 use Rattle.verse_effects.specs.Callees.{call_fails, call_lasts, call_suspends, call_touches}
-use Rattle.verse_effects.specs.Callees as effects
 use Rattle.verse_effects.specs.Forms.{is_spawned, is_on_path, index_fails, is_plain_function}
 use Rattle.verse_effects.specs.declared.callees.Callee.{Callee as Does}
 use Rattle.verse_effects.specs.declared.callees.Callee.TheVariants as c
-use Rattle.verse_rules.specs.Sound.{completed}
 use Rattle.verse_meaning.specs.Programs.{Program, method_in}
 use Rattle.verse_meaning.specs.Residuals as form
 use Rattle.verse_meaning.specs.Residuals.{Form}
 use Rattle.verse_meaning.specs.Evaluating.{Callee, picked, literal_of}
 use Rattle.verse_sorts.specs.Sorts as s
 use Rattle.verse_sorts.specs.Sorts.{Sort, Sorts, Fits}
-use Rattle.verse_sorts.specs.Typing.{AllFit, fit_no, fit_so}
+use Rattle.verse_sorts.specs.Typing.{fit_no, fit_so}
 use Rattle.verse_sorts.proofs.Fitting.{fits_itself, all_itself}
 use Rattle.verse_sorts_types.specs.SortOf.{sort_of}
 use Rattle.verse_sorts_types.specs.SortOf as sort
@@ -47,14 +44,13 @@ use Rattle.verse_sound_rules.specs.Found.{Allowed}
 use Rattle.verse_sound_rules.specs.Found as rules
 use Rattle.verse_sound_rules.specs.Forms.{Gives, NoCase}
 use Rattle.verse_sound_rules.specs.Forms as takes
-use Rattle.verse_sound_rules.specs.Fine.{on_callee}
+use Rattle.verse_sound_rules.specs.Fine.{on_callee, Reaches}
 use Rattle.verse_accept_scopes.specs.Holding.{OnArguments}
 use Rattle.verse_accept_rows.specs.Found.{final, Found}
 use Rattle.verse_accept_classes.specs.Owners.{Owned}
 use Rattle.verse_accept_classes.specs.Referring.{IsFunction, IsMethod}
 use Rattle.verse_accept_classes.specs.Laws.{FunctionsStand}
 use Rattle.verse_accept_fine.specs.Sorted.{At, ty_at, all_classes, up, sorted, program, Allows, class_in}
-use Rattle.verse_accept_fine.proofs.Rules.{not_not, and_left, and_right}
 use Rattle.verse_accept_fine.proofs.Base.{its_row, of_row, is_row}
 use Rattle.verse_accept_fine.proofs.Base as base
 use Rattle.verse_accept_fine.proofs.Operators.{int_fits, caught, key_sort}
@@ -62,6 +58,7 @@ use Rattle.verse_accept_fine.proofs.Control.{async_waits}
 use Rattle.verse_accept_fine.proofs.Calls as calls
 use Rattle.verse_accept_fine.proofs.Calls.{and_true, served, class_entry}
 use Rattle.verse_accept_forms.specs.Callees.{HasValue, HasObject, Rounds}
+use Rattle.verse_accept_forms.proofs.Indices.{reaches}
 use Rattle.verse_accept_forms.proofs.Operands.{sorts_of, no_operands, one_operand, two_ints, not_one, used_allows}
 use Rattle.verse_accept_forms.proofs.CalleeKinds.{Kind, IsWait, IsValue, IsFixed, fixed_int, fixed_enum, is_function, is_own, is_method}
 use Rattle.verse_accept_forms.proofs.CalleeKinds.{is_print}
@@ -87,7 +84,7 @@ no_case_picked (more_trees e no_trees) = tt
 no_case_picked (more_trees e (more_trees d es)) = tt
 
 -- what is fixed is neither called nor indexed
-not_called : (u : Ty) → IsFixed u → can_call (types.value u) ≡ false
+pub not_called : (u : Ty) → IsFixed u → can_call (types.value u) ≡ false
 not_called u fixed_int = refl
 not_called u fixed_enum = refl
 
@@ -184,17 +181,17 @@ module _ (is : List ItemTree) (arrays events : ℕ → Bool) where
 
     module _ (e : Tree) (ts : Trees) (h : Is (t.Shape.call e ts)) where
       fit : (k : types.Callee) → types.callee_of F e ≡ k → arguments_fit F k ts ≡ true
-      fit k g = ap (λ z. arguments_fit F z ts) (sym g) ∙ not_not _ (base.types is w a xs n p (t.Shape.call e ts) h).matched
+      fit k g = ap (λ z. arguments_fit F z ts) (sym g) ∙ not-false _ (base.types is w a xs n p (t.Shape.call e ts) h).matched
 
       counted : (k : types.Callee) → types.callee_of F e ≡ k → are_wanted (call_wanted k) (count ts) ≡ true
       counted k g =
-          ap (λ z. are_wanted (call_wanted z) (count ts)) (sym g) ∙ not_not _ (base.types is w a xs n p (t.Shape.call e ts) h).counted
+          ap (λ z. are_wanted (call_wanted z) (count ts)) (sym g) ∙ not-false _ (base.types is w a xs n p (t.Shape.call e ts) h).counted
 
       row : (k : types.Callee) → types.callee_of F e ≡ k → ty_at is n ≡ call_type k ts
       row k g = its_row is w a xs n p (t.Shape.call e ts) h ∙ ap (λ z. call_type z ts) g
 
       called : (k : types.Callee) → types.callee_of F e ≡ k → can_call k ≡ true
-      called k g = ap can_call (sym g) ∙ not_not _ (base.types is w a xs n p (t.Shape.call e ts) h).callable
+      called k g = ap can_call (sym g) ∙ not-false _ (base.types is w a xs n p (t.Shape.call e ts) h).callable
 
       -- ---- built-in functions
 
@@ -205,7 +202,7 @@ module _ (is : List ItemTree) (arrays events : ℕ → Bool) where
         given = s.unit;
         operands = one_operand is arrays events ts ty.string (counted types.print g) (fit types.print g);
         takes = takes.takes_line;
-        value = of_row is n s.unit ty.void (row types.print g) s.to_any;
+        value = of_row is n s.unit ty.void (row types.print g) (s.to_any tt);
       }
 
       round_gives : (x : Form) → NoCase x → takes.Takes whole found b xs x (s.int ∷ s.int ∷ []) s.int → ty_at is n ≡ ty.int →
@@ -213,13 +210,13 @@ module _ (is : List ItemTree) (arrays events : ℕ → Bool) where
           Give x (sort_of (type_of F y) ∷ sort_of (type_of F z) ∷ [])
       round_gives x k take r i q y z o =
           let ints : are_ints (type_of F y) (type_of F z) ≡ true =
-          not_not _ (base.types is w (used_as (argument (number_of_tree e) 0) a) xs i q (t.Shape.chained op.Div y z) o).matched in
+          not-false _ (base.types is w (used_as (argument (number_of_tree e) 0) a) xs i q (t.Shape.chained op.Div y z) o).matched in
           record {
             no_case = k;
             taken = s.int ∷ s.int ∷ [];
             given = s.int;
-            operands = fit_so (int_fits is arrays events (type_of F y) (and_left (is_int (type_of F y)) (is_int (type_of F z)) ints))
-                (fit_so (int_fits is arrays events (type_of F z) (and_right (is_int (type_of F y)) (is_int (type_of F z)) ints)) fit_no);
+            operands = fit_so (int_fits is arrays events (type_of F y) (and_first (is_int (type_of F y)) (is_int (type_of F z)) ints))
+                (fit_so (int_fits is arrays events (type_of F z) (and_second (is_int (type_of F y)) (is_int (type_of F z)) ints)) fit_no);
             takes = take;
             value = is_row is n ty.int r;
           }
@@ -271,8 +268,8 @@ module _ (is : List ItemTree) (arrays events : ℕ → Bool) where
         given = s.unit;
         operands = fit_so (subst (λ z. Fits (up is) z (s.event s.any)) (sym same) (fits_itself (up is) (s.event s.any)))
             (no_operands is arrays events ts one);
-        takes = takes.takes_bare_signal k s.to_any;
-        value = of_row is n s.unit ty.void r s.to_any;
+        takes = takes.takes_bare_signal k (s.to_any tt);
+        value = of_row is n s.unit ty.void r (s.to_any tt);
       }
       signal_by u one f k same r = record {
         no_case = tt;
@@ -281,7 +278,7 @@ module _ (is : List ItemTree) (arrays events : ℕ → Bool) where
         operands = fit_so (subst (λ z. Fits (up is) z (s.event (sort_of u))) (sym same) (fits_itself (up is) (s.event (sort_of u))))
             (one_operand is arrays events ts u one f);
         takes = takes.takes_signal k;
-        value = of_row is n s.unit ty.void r s.to_any;
+        value = of_row is n s.unit ty.void r (s.to_any tt);
       }
 
       -- ---- elements of tuples
@@ -332,7 +329,7 @@ module _ (is : List ItemTree) (arrays events : ℕ → Bool) where
       pick_gives v =
           let g = v.callee in
           pick_by (type_of F e) (called (types.value (type_of F e)) g) (counted (types.value (type_of F e)) g)
-          (ap (λ z. has_called_item z ts) (sym g) ∙ not_not _ (base.types is w a xs n p (t.Shape.call e ts) h).member)
+          (ap (λ z. has_called_item z ts) (sym g) ∙ not-false _ (base.types is w a xs n p (t.Shape.call e ts) h).member)
           (row (types.value (type_of F e)) g)
 
       -- ---- by the callee
@@ -374,11 +371,11 @@ module _ (is : List ItemTree) (arrays events : ℕ → Bool) where
 
     module _ (e : Tree) (ts : Trees) (h : Is (t.Shape.index e ts)) where
       fit_index : (k : types.Callee) → types.callee_of F e ≡ k → indices_fit F k ts ≡ true
-      fit_index k g = ap (λ z. indices_fit F z ts) (sym g) ∙ not_not _ (base.types is w a xs n p (t.Shape.index e ts) h).matched
+      fit_index k g = ap (λ z. indices_fit F z ts) (sym g) ∙ not-false _ (base.types is w a xs n p (t.Shape.index e ts) h).matched
 
       counted_index : (k : types.Callee) → types.callee_of F e ≡ k → are_wanted (index_wanted k) (count ts) ≡ true
       counted_index k g =
-          ap (λ z. are_wanted (index_wanted z) (count ts)) (sym g) ∙ not_not _ (base.types is w a xs n p (t.Shape.index e ts) h).counted
+          ap (λ z. are_wanted (index_wanted z) (count ts)) (sym g) ∙ not-false _ (base.types is w a xs n p (t.Shape.index e ts) h).counted
 
       row_index : (k : types.Callee) → types.callee_of F e ≡ k → ty_at is n ≡ index_type k ts
       row_index k g = its_row is w a xs n p (t.Shape.index e ts) h ∙ ap (λ z. index_type z ts) g
@@ -447,7 +444,7 @@ module _ (is : List ItemTree) (arrays events : ℕ → Bool) where
         given = sort_of u;
         operands = fit_so (fits_itself (up is) (s.map (sort_of l) (sort_of u)))
             (fit_so (fitting.fits_sort (all_classes is) (type_of F (tree m q x)) l i) fit_no);
-        takes = takes.takes_index f (in_map (key_sort is arrays events l (and_left (is_key l) (has_keys u) k)));
+        takes = takes.takes_index f (in_map (key_sort is arrays events l (and_first (is_key l) (has_keys u) k)));
         value = is_row is n u r;
       }
       element_by (ty.mapping l u) (more_trees y (more_trees z vs)) i one k f r = absurd (not_one y z vs one)
@@ -460,10 +457,18 @@ module _ (is : List ItemTree) (arrays events : ℕ → Bool) where
           element_by (type_of F e) ts (fit_index (types.value (type_of F e)) g) (counted_index (types.value (type_of F e)) g) keys
           (fails_as c.Other v.effects (ap not path)) (row_index (types.value (type_of F e)) g)
 
+      index_reaches : IsValue is arrays events e → has_keys (type_of F e) ≡ true →
+          Reaches whole found (sort_of (type_of F e)) (sorts ts) own
+      index_reaches v keys =
+          let g = v.callee in
+          reaches is arrays events (type_of F e) ts (ty_at is n) (fit_index (types.value (type_of F e)) g)
+          (counted_index (types.value (type_of F e)) g) keys (row_index (types.value (type_of F e)) g)
+
       pub index_by : FunctionsStand is → is_spawned a.used ≡ false → is_on_path a.used ≡ false → has_keys (type_of F e) ≡ true →
           Arguments e ts → {k : Callee} → Kinds e form.indexing k →
           on_callee k (λ x. Give x (sorts ts)) (λ x. HasObject is e × Give x (object e ∷ sorts ts))
-          (λ x. HasValue is arrays events w a xs b n p e × Give x (sort_of (type_of F e) ∷ sorts ts)) (λ x. ⊥)
+          (λ x. HasValue is arrays events w a xs b n p e × Reaches whole found (sort_of (type_of F e)) (sorts ts) own ×
+          Give x (sort_of (type_of F e) ∷ sorts ts)) (λ x. ⊥)
       index_by stand used path keys args (is_function g f k) = function_gives g f ts (can_index_of stand used args g _ k)
       index_by stand used path keys args (is_own d i f o this k) = own_gives d i f ts this (can_index_of stand used args f.number o k)
       index_by stand used path keys args (is_method d i f o has same k) =
@@ -476,9 +481,9 @@ module _ (is : List ItemTree) (arrays events : ℕ → Bool) where
       index_by stand used path keys args (is_event u has same g f) = absurd (plain c.Await f refl)
       index_by stand used path keys args (is_signal u has same g f) = absurd (plain c.Signal f refl)
       index_by stand used path keys args (is_nowhere x k has same g) = (has, nowhere_gives x (object e) ts k same)
-      index_by stand used path keys args (as_value v has) = (has, index_gives v keys path)
+      index_by stand used path keys args (as_value v has) = (has, index_reaches v keys, index_gives v keys path)
       index_by stand used path keys args (is_item g) =
           let no : can_stand_indexed types.item ≡ true =
-          ap can_stand_indexed (sym g) ∙ not_not _ (base.types is w a xs n p (t.Shape.index e ts) h).callable in absurd (cc)
+          ap can_stand_indexed (sym g) ∙ not-false _ (base.types is w a xs n p (t.Shape.index e ts) h).callable in absurd (cc)
       index_by stand used path keys args (is_fixed u f g k) =
           let no : false ≡ true = sym (not_indexed u ts f) ∙ fit_index (types.value u) g in absurd (cc)

@@ -2,6 +2,7 @@
 use Rattle.std.proofs.Common.{◌≡◌, ℕ, zero, suc, ◌+◌, ◌<◌, Bool, true, false, not, cond, ◌||◌, bytes_eq, List, [], ◌∷◌, length, Option}
 use Rattle.std.proofs.Common.{refl, sym, subst, ap, ◌∙◌, arith}
 use Rattle.std.specs.Prelude.{Some, None, slice_get, codes, is_none}
+use Rattle.std.proofs.lemmas.Bool.{not-false}
 use Rattle.verse_base.specs.declared.places.Place.{Place}
 use Rattle.verse_tree.specs.Tree.{Bytes, Tree, tree, Shape}
 use Rattle.verse_tree.specs.Tree as t
@@ -35,6 +36,7 @@ use Rattle.verse_meaning.specs.Residuals as form
 use Rattle.verse_meaning.specs.Residuals.{Form}
 use Rattle.verse_meaning.specs.Evaluating.{Callee, alone, of_object, of_value, of_quotient, callee_of, await_name, signal_name}
 use Rattle.verse_meaning.specs.Evaluating.{named_callee, member_callee}
+use Rattle.verse_meaning.proofs.Names.{same_bytes}
 use Rattle.verse_sorts.specs.Sorts as s
 use Rattle.verse_sorts.specs.Sorts.{Sort}
 use Rattle.verse_sorts_types.specs.SortOf.{sort_of}
@@ -48,10 +50,8 @@ use Rattle.verse_accept_classes.specs.Owners.{Owned, owned}
 use Rattle.verse_accept_classes.specs.Referring.{IsFunction, IsMethod, IsThere, Names}
 use Rattle.verse_accept_classes.specs.Laws.{Quiet, FunctionsStand}
 use Rattle.verse_accept_classes.proofs.Tables.{fields_agree_all, field_names_agree, methods_owned}
-use Rattle.verse_accept_classes.proofs.Names.{same_bytes}
 use Rattle.verse_accept_fine.specs.Needs.{NoEnum}
 use Rattle.verse_accept_fine.specs.Sorted.{At, ty_at, sorted, program, Allows, is_event_type}
-use Rattle.verse_accept_fine.proofs.Rules.{not_not}
 use Rattle.verse_accept_fine.proofs.Base.{its_row, same_known, same_referred}
 use Rattle.verse_accept_fine.proofs.Base as base
 use Rattle.verse_accept_fine.proofs.Members.{within_from, type_only}
@@ -122,7 +122,7 @@ module _ (is : List ItemTree) (arrays events : ℕ → Bool) where
         by (Some d) e = value_by m q t.Shape.this (Some (ref.Class d)) e refl refl
     other_value m q (t.Shape.instance x gs) h k =
         by (refs.ref_at (Rattle.verse_rules.specs.Naming.named is).refs m) h.ref
-        (not_not _ (base.types is w a xs m q (t.Shape.instance x gs) h).callable)
+        (not-false _ (base.types is w a xs m q (t.Shape.instance x gs) h).callable)
       where
         by : (o : Option Ref) → refs.ref_at F.refs m ≡ o → is_class o ≡ true → IsValue (tree m q (t.Shape.instance x gs))
         by (Some (ref.Class d)) e f = value_by m q (t.Shape.instance x gs) (Some (ref.Class d)) e refl refl
@@ -130,7 +130,7 @@ module _ (is : List ItemTree) (arrays events : ℕ → Bool) where
         by None e f = absurd (cc)
     other_value m q (t.Shape.enum_pattern x y) h k =
         by (refs.ref_at (Rattle.verse_rules.specs.Naming.named is).refs m) h.ref
-        (not_not _ (base.types is w a xs m q (t.Shape.enum_pattern x y) h).member)
+        (not-false _ (base.types is w a xs m q (t.Shape.enum_pattern x y) h).member)
       where
         by : (o : Option Ref) → refs.ref_at F.refs m ≡ o → is_enum_value F o y ≡ true → IsValue (tree m q (t.Shape.enum_pattern x y))
         by (Some (ref.Enum d)) e f = value_by m q (t.Shape.enum_pattern x y) (Some (ref.Enum d)) e refl refl
@@ -168,7 +168,7 @@ module _ (is : List ItemTree) (arrays events : ℕ → Bool) where
         by (Some i) e = cc
     enum_type m q (t.Shape.instance x gs) d h e =
         absurd (by (refs.ref_at (Rattle.verse_rules.specs.Naming.named is).refs m) (sym h.ref ∙ e)
-        (not_not _ (base.types is w a xs m q (t.Shape.instance x gs) h).callable))
+        (not-false _ (base.types is w a xs m q (t.Shape.instance x gs) h).callable))
       where
         by : (o : Option Ref) → o ≡ Some (ref.Enum d) → is_class o ≡ true → ⊥
         by (Some (ref.Class i)) e f = cc
@@ -425,7 +425,7 @@ module _ (is : List ItemTree) (arrays events : ℕ → Bool) where
             stands : may_stand (is_called d.used) (cond (is_value F i z) (part (ty.enum i)) missing) ≡ true
             stands =
                 ap (λ j. may_stand (is_called d.used) (member_of F j (ty_at is k) z)) (sym f)
-                ∙ not_not _ (base.types is w d xs m q (t.Shape.member object z) h).member
+                ∙ not-false _ (base.types is w d xs m q (t.Shape.member object z) h).member
 
             own : ty_at is m ≡ part_type (cond (is_value F i z) (part (ty.enum i)) missing)
             own = its_row is w d xs m q (t.Shape.member object z) h ∙ ap (λ j. part_type (member_of F j (ty_at is k) z)) f
@@ -450,7 +450,7 @@ module _ (is : List ItemTree) (arrays events : ℕ → Bool) where
                 plain in
                 let stands : may_stand (is_called d.used) (type_member F (ty_at is k) z) ≡ true =
                 ap (may_stand (is_called d.used)) (sym only)
-                ∙ not_not _ (base.types is w d xs m q (t.Shape.member object z) h).member in
+                ∙ not-false _ (base.types is w d xs m q (t.Shape.member object z) h).member in
                 let own : ty_at is m ≡ part_type (type_member F (ty_at is k) z) =
                 its_row is w d xs m q (t.Shape.member object z) h ∙ ap part_type only in
                 let known_ref : ref_at whole m ≡ member_ref F (ty_at is k) z = same_known (slice_get F.refs m) ∙ h.ref in

@@ -1,5 +1,6 @@
 pub mod Plain
 pub mod Operands
+pub mod Indices
 pub mod CalleeKinds
 pub mod CallForms
 pub mod Spawns

@@ -2,6 +2,7 @@
 use Rattle.std.proofs.Common.{◌≡◌, ℕ, zero, suc, ◌+◌, Bool, true, ◌&&◌, nat_eq, List, [], ◌∷◌, refl, arith}
 use Rattle.std.proofs.lemmas.Bool.Decides.{nat_tests}
 use Rattle.std.specs.Prelude.{Some}
+use Rattle.verse_base.proofs.Facts.{and_first, and_second}
 use Rattle.verse_tree.specs.Tree.{Tree, tree, Shape, Trees, no_trees, more_trees}
 use Rattle.verse_tree.specs.Tree as t
 use Rattle.verse_tree.specs.ItemTree.{ItemTree}
@@ -20,7 +21,6 @@ use Rattle.verse_sound_rules.specs.Found.{Allowed}
 use Rattle.verse_sound_rules.specs.Fine.{sorts_at}
 use Rattle.verse_accept_rows.specs.Found.{final}
 use Rattle.verse_accept_fine.specs.Sorted.{all_classes, up, sorted, program, Allows}
-use Rattle.verse_accept_fine.proofs.Rules.{and_left, and_right}
 use Rattle.verse_accept_fine.proofs.Operators.{int_fits}
 
 same_count : (n m : ℕ) → nat_eq n m ≡ true → m ≡ n
@@ -60,8 +60,8 @@ module _ (is : List ItemTree) (arrays events : ℕ → Bool) where
   two_ints (more_trees (tree m q x) (more_trees (tree k r y) no_trees)) h f =
       let e = tree m q x in
       let d = tree k r y in
-      fit_so (int_fits is arrays events (type_of F e) (and_left (would_be_int (Some (type_of F e))) (would_be_int (Some (type_of F d))) f))
-      (fit_so (int_fits is arrays events (type_of F d) (and_right (would_be_int (Some (type_of F e))) (would_be_int (Some
+      fit_so (int_fits is arrays events (type_of F e) (and_first (would_be_int (Some (type_of F e))) (would_be_int (Some (type_of F d))) f))
+      (fit_so (int_fits is arrays events (type_of F d) (and_second (would_be_int (Some (type_of F e))) (would_be_int (Some
       (type_of F d))) f)) fit_no)
   two_ints (more_trees e (more_trees d (more_trees c es))) h f = absurd (not_two e d c es h)
 

@@ -1,6 +1,8 @@
 -- Literals, statements, failure contexts, events, blocks and waits: what their forms need.
 use Rattle.std.proofs.Common.{◌≡◌, ℕ, ℤ, Bool, true, false, not, ◌&&◌, List, [], ◌∷◌, Option, refl, subst}
+use Rattle.std.proofs.lemmas.Bool.{not-false}
 use Rattle.verse_base.specs.declared.places.Place.{Place}
+use Rattle.verse_base.proofs.Facts.{guarded}
 use Rattle.verse_tree.specs.Tree.{Bytes, Written, Tree, Shape, Trees}
 use Rattle.verse_tree.specs.Tree as t
 use Rattle.verse_tree.specs.ItemTree.{ItemTree}
@@ -17,7 +19,7 @@ use Rattle.verse_check_typing.specs.TypeRules.{has_value, takes_item, is_rounded
 use Rattle.verse_meaning.specs.Residuals as form
 use Rattle.verse_sorts.specs.Sorts as s
 use Rattle.verse_sorts.specs.Sorts.{Sort, Fits}
-use Rattle.verse_sorts.proofs.Fitting.{all_itself}
+use Rattle.verse_sorts.proofs.Fitting.{fits_itself, all_itself}
 use Rattle.verse_sorts_types.specs.SortOf.{sort_of}
 use Rattle.verse_sorts_types.proofs.Fitting as fitting
 use Rattle.verse_sound_rules.specs.Found.{Allowed}
@@ -25,8 +27,7 @@ use Rattle.verse_sound_rules.specs.Forms.{Gives}
 use Rattle.verse_sound_rules.specs.Forms as takes
 use Rattle.verse_accept_rows.specs.Found.{final}
 use Rattle.verse_accept_fine.specs.Sorted.{At, ty_at, all_classes, up, sorted, program, Allows}
-use Rattle.verse_accept_fine.proofs.Rules.{not_not, guarded}
-use Rattle.verse_accept_fine.proofs.Base.{types, effects, its_row, of_row, is_row}
+use Rattle.verse_accept_fine.proofs.Base.{types, effects, its_row, its_sort, of_row, is_row}
 use Rattle.verse_accept_fine.proofs.Operators.{caught}
 use Rattle.verse_accept_fine.proofs.Control.{async_waits}
 
@@ -73,7 +74,7 @@ module _ (is : List ItemTree) (arrays events : ℕ → Bool) (w : World) (a : Ar
 
   -- unit is of what is void
   void_fits : ty_at is n ≡ ty.void → Fits (up is) s.unit own
-  void_fits r = of_row is n s.unit ty.void r s.to_any
+  void_fits r = of_row is n s.unit ty.void r (s.to_any tt)
 
   pub defer_fits : (e : Tree) → Is (t.Shape.defer e) → Fits (up is) s.unit own
   defer_fits e h = void_fits (its_row is w a xs n p (t.Shape.defer e) h)
@@ -106,17 +107,17 @@ module _ (is : List ItemTree) (arrays events : ℕ → Bool) (w : World) (a : Ar
   }
 
   pub may_return : (e : Tree) → Is (t.Shape.returned e) → a.may_return ≡ true
-  may_return e h = not_not a.may_return (effects is w a xs n p (t.Shape.returned e) h).stays
+  may_return e h = not-false a.may_return (effects is w a xs n p (t.Shape.returned e) h).stays
 
   pub may_return_unit : Is t.Shape.returned_unit → a.may_return ≡ true
-  may_return_unit h = not_not a.may_return (effects is w a xs n p t.Shape.returned_unit h).stays
+  may_return_unit h = not-false a.may_return (effects is w a xs n p t.Shape.returned_unit h).stays
 
   -- ---- failure contexts
 
   pub if_fits : (ts : Trees) (e : Tree) → Is (t.Shape.if_alone ts e) → Fits (up is) (part e) own × Fits (up is) s.unit own
   if_fits ts e h =
       let r : ty_at is n ≡ ty.void = its_row is w a xs n p (t.Shape.if_alone ts e) h in
-      (of_row is n (part e) ty.void r s.to_any, void_fits r)
+      (of_row is n (part e) ty.void r (s.to_any (fitting.sort_known (type_of F e))), void_fits r)
 
   pub negation_fits : (e : Tree) → Is (t.Shape.negation e) → (b.fails ≡ true) × Fits (up is) s.unit own
   negation_fits e h = (
@@ -148,8 +149,8 @@ module _ (is : List ItemTree) (arrays events : ℕ → Bool) (w : World) (a : Ar
   pub bare_event_fits : Is t.Shape.bare_event → (q : Sort) × Fits (up is) (s.event q) own
   bare_event_fits h = (s.any, is_row is n (ty.event ty.void) (its_row is w a xs n p t.Shape.bare_event h))
 
-  pub for_fits : (ts : Trees) (e : Tree) → Is (t.Shape.for_form ts e) → Fits (up is) (s.list (part e)) own
-  for_fits ts e h = is_row is n (ty.array (type_of F e)) (its_row is w a xs n p (t.Shape.for_form ts e) h)
+  pub for_fits : (ts : Trees) (e : Tree) → Is (t.Shape.for_form ts e) → (q : Sort) × (own ≡ s.list q) × Fits (up is) (part e) q
+  for_fits ts e h = (part e, its_sort is w a xs n p (t.Shape.for_form ts e) h, fits_itself (up is) (part e))
 
   pub block_fits : (e : Tree) → Is (t.Shape.block_form e) → Fits (up is) (part e) own
   block_fits e h = is_row is n (type_of F e) (its_row is w a xs n p (t.Shape.block_form e) h)

@@ -2,7 +2,9 @@
 use Rattle.std.proofs.Common.{◌≡◌, ℕ, Bool, true, false, not, cond, ◌&&◌, ◌||◌, bytes_eq, List, [], ◌∷◌, Option, map}
 use Rattle.std.proofs.Common.{refl, sym, subst, ap, ◌∙◌}
 use Rattle.std.specs.Prelude.{Some, None, slice_get, codes}
+use Rattle.std.proofs.lemmas.Bool.{not-false}
 use Rattle.verse_base.specs.declared.places.Place.{Place}
+use Rattle.verse_base.proofs.Facts.{not_second, guarded}
 use Rattle.verse_tree.specs.Tree.{Bytes, Tree, tree, Shape, Trees}
 use Rattle.verse_tree.specs.Tree as t
 use Rattle.verse_tree.specs.ItemTree.{ItemTree}
@@ -34,6 +36,7 @@ use Rattle.verse_meaning.specs.Programs.{Program, method_in, ref_at, same_name}
 use Rattle.verse_meaning.specs.Residuals as form
 use Rattle.verse_meaning.specs.Residuals.{Form}
 use Rattle.verse_meaning.specs.Evaluating.{Callee, of_value, callee_of, spawned_callee, member_form, member_callee, await_name, signal_name}
+use Rattle.verse_meaning.proofs.Names.{same_bytes}
 use Rattle.verse_sorts.specs.Sorts as s
 use Rattle.verse_sorts.specs.Sorts.{Sort, Fits}
 use Rattle.verse_sorts.specs.Typing.{AllFit, fit_so}
@@ -49,11 +52,10 @@ use Rattle.verse_accept_rows.specs.Found.{final, Found}
 use Rattle.verse_accept_classes.specs.Owners.{Owned, owned}
 use Rattle.verse_accept_classes.specs.Referring.{Names}
 use Rattle.verse_accept_classes.specs.Laws.{Quiet, FunctionsStand}
-use Rattle.verse_accept_classes.proofs.Names.{same_bytes}
 use Rattle.verse_accept_classes.proofs.Tables.{fields_agree_all, field_names_agree}
 use Rattle.verse_accept_fine.specs.Needs.{NoEnum}
 use Rattle.verse_accept_fine.specs.Sorted.{At, ty_at, up, sorted, program, Allows, class_in, signature_of, made_sort, is_event_type}
-use Rattle.verse_accept_fine.proofs.Rules.{not_not, both_false, or_left}
+use Rattle.verse_accept_fine.proofs.Rules.{or_left}
 use Rattle.verse_accept_fine.proofs.Base.{its_row, is_row, same_known}
 use Rattle.verse_accept_fine.proofs.Base as base
 use Rattle.verse_accept_fine.proofs.Members as members
@@ -64,11 +66,6 @@ use Rattle.verse_accept_forms.proofs.Operands.{sorts_of, used_allows}
 use Rattle.verse_accept_forms.proofs.CalleeKinds.{Kind, kind_of, is_function, is_own, is_method, is_print, is_floor, is_ceiling, is_modulo}
 use Rattle.verse_accept_forms.proofs.CalleeKinds.{is_task, is_event, is_signal, is_nowhere, as_value, is_item, is_fixed, effects_of}
 use Rattle.verse_accept_forms.proofs.CalleeKinds.{object_of}
-
-caught_not : (q r : Bool) → (q && not r) ≡ false → q ≡ true → r ≡ true
-caught_not true true h e = refl
-caught_not true false h e = cc
-caught_not false r h e = cc
 
 decides_so : (q : Bool) → (true && not q) ≡ false → q ≡ true
 decides_so true h = refl
@@ -105,7 +102,7 @@ module _ (is : List ItemTree) (arrays events : ℕ → Bool) where
       inner_allows = used_allows is arrays events w a b around.spawned allows
 
       started : Rattle.verse_check_typing.specs.TypeRules.can_be_spawned F e ≡ true
-      started = not_not _ (base.types is w a xs n p (t.Shape.spawn e) h).callable
+      started = not-false _ (base.types is w a xs n p (t.Shape.spawn e) h).callable
 
       waits : b.waits ≡ true
       waits = calls.lasting_waits is arrays events w a xs b allows n p (t.Shape.spawn e) no_effects h refl refl refl refl
@@ -126,7 +123,7 @@ module _ (is : List ItemTree) (arrays events : ℕ → Bool) where
             let sign = ap (λ i. signature_of i (class_in (slice_get (owned (known is).items) g))) (stand.info g o k.there) in
             let counted : are_wanted (Some (Rattle.std.specs.Prelude.length info.params)) (count ts) ≡ true =
             ap (λ z. are_wanted (call_wanted z) (count ts)) (sym k.callee)
-            ∙ not_not _ (base.types is w inner xs m q (t.Shape.call f ts) i).counted in
+            ∙ not-false _ (base.types is w inner xs m q (t.Shape.call f ts) i).counted in
             let never : info.effects.decides ≡ false =
             sym (ap call_fails k.effects) ∙ (base.effects is w inner xs m q (t.Shape.call f ts) i).brackets in
             let row : ty_at is m ≡ ty_of info.result =
@@ -213,7 +210,7 @@ module _ (is : List ItemTree) (arrays events : ℕ → Bool) where
         untried =
             or_left a.is_tried a.owner.effects.transacts
             (or_left (a.is_tried || a.owner.effects.transacts) a.is_deferred
-            (both_false true _ (base.effects is w a xs n p (t.Shape.spawn e) h).undone refl))
+            (not_second true _ (base.effects is w a xs n p (t.Shape.spawn e) h).undone refl))
 
         no_function : (g : ℕ) (o : Owned) → calls.Calls is arrays events w inner xs b inner_allows m q f g o → ⊥
         no_function g o k =
@@ -223,7 +220,7 @@ module _ (is : List ItemTree) (arrays events : ℕ → Bool) where
             let fails : index_fails around.spawned (effects_of is arrays events f) ≡ true =
             ap (index_fails around.spawned) k.effects ∙ decides_so info.effects.decides brackets in
             let caught : a.is_caught ≡ true =
-            caught_not _ a.is_caught (base.effects is w inner xs m q (t.Shape.index f ts) i).caught fails in
+            guarded _ a.is_caught (base.effects is w inner xs m q (t.Shape.index f ts) i).caught fails in
             let no : true ≡ false = sym (allows.tried caught) ∙ untried in cc
 
         none_started : (k : types.Callee) → types.callee_of F f ≡ k → is_suspending k ≡ false → ⊥
@@ -262,7 +259,7 @@ module _ (is : List ItemTree) (arrays events : ℕ → Bool) where
         (around.indexed (inner stand e h)) f o.1.0))
     spawn_gives stand quiet names told (tree m q x) h o =
         let no : Rattle.verse_check_typing.specs.TypeRules.is_suspending_call F x ≡ true =
-        not_not _ (base.types is w a xs n p (t.Shape.spawn (tree m q x)) h).callable in absurd (cc)
+        not-false _ (base.types is w a xs n p (t.Shape.spawn (tree m q x)) h).callable in absurd (cc)
 
     -- ---- members that are values
 
@@ -324,7 +321,7 @@ module _ (is : List ItemTree) (arrays events : ℕ → Bool) where
         (refs.ref_at F.refs (number_of_tree e)) u x plain in
         let known_ref : ref_at whole n ≡ member_ref F u x = same_known (slice_get F.refs n) ∙ h.ref in
         let stands : may_stand (is_called a.used) (type_member F u x) ≡ true =
-        ap (may_stand (is_called a.used)) (sym only) ∙ not_not _ (base.types is w a xs n p (t.Shape.member e x) h).member in
+        ap (may_stand (is_called a.used)) (sym only) ∙ not-false _ (base.types is w a xs n p (t.Shape.member e x) h).member in
         let named = ap (λ o. member_callee o (events (Rattle.verse_meaning.specs.Evaluating.number_of e)) x y) (sym known_ref) ∙ k in
         let own_row : ty_at is n ≡ part_type (type_member F u x) =
         its_row is w a xs n p (t.Shape.member e x) h ∙ ap part_type only in

@@ -1,5 +1,6 @@
 -- What plain forms and callees need, from what is found at their nodes.
 use Rattle.std.proofs.Common.{◌≡◌, ℕ, Bool, true, List, ap, ◌∙◌}
+use Rattle.std.proofs.lemmas.Bool.{not-false}
 use Rattle.verse_tree.specs.Tree.{Tree, tree, Trees}
 use Rattle.verse_tree.specs.Tree as t
 use Rattle.verse_tree.specs.ItemTree.{ItemTree}
@@ -14,7 +15,6 @@ use Rattle.verse_meaning.specs.Evaluating.{picked}
 use Rattle.verse_accept_scopes.specs.Holding.{OnPart}
 use Rattle.verse_accept_rows.specs.Found.{final, Found}
 use Rattle.verse_accept_fine.specs.Sorted.{ty_at}
-use Rattle.verse_accept_fine.proofs.Rules.{not_not}
 use Rattle.verse_accept_fine.proofs.Base.{its_row, types}
 use Rattle.verse_accept_forms.specs.Plain.{PlainNeeds}
 use Rattle.verse_accept_forms.specs.Callees.{CalleesNeed}
@@ -53,7 +53,7 @@ plain_needs is r v w a xs m h n q = record {
 -- what is indexed has keys that can be keys
 keyed : (is : List ItemTree) (w : World) (a : Around) (xs : Table) (n : ℕ) (e : Tree) → OnPart (Found is) w n a xs e →
     has_keys (type_of (final is) e) ≡ true
-keyed is w a xs n (tree m q x) h = ap has_keys (its_row is w a xs m q x h.2) ∙ not_not _ (types is w a xs m q x h.2).keyed
+keyed is w a xs n (tree m q x) h = ap has_keys (its_row is w a xs m q x h.2) ∙ not-false _ (types is w a xs m q x h.2).keyed
 
 pub callees_need : CalleesNeed
 callees_need is stand quiet r v told w a xs m h names n q = record {

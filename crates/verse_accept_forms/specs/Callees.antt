@@ -20,7 +20,7 @@ use Rattle.verse_meaning.specs.Evaluating.{of_value, callee_of, spawned_callee, 
 use Rattle.verse_sorts.specs.Sorts.{Sort}
 use Rattle.verse_sound_rules.specs.Found.{Allowed}
 use Rattle.verse_sound_rules.specs.Found as rules
-use Rattle.verse_sound_rules.specs.Fine.{sorts_at, object_sort, on_callee}
+use Rattle.verse_sound_rules.specs.Fine.{sorts_at, object_sort, on_callee, Reaches}
 use Rattle.verse_accept_scopes.specs.Holding.{OnPart, OnArguments}
 use Rattle.verse_accept_rows.specs.Found.{final, Found}
 use Rattle.verse_accept_classes.specs.Referring.{Names}
@@ -88,7 +88,8 @@ module _ (is : List ItemTree) (arrays events : ℕ → Bool) (w : World) (a : Ar
         OnArguments (Found is) w n a xs (number_of_tree e) 0 ts →
         on_callee (callee_of whole e form.indexing p) (λ x. Give x (sorts_at whole found ts))
         (λ x. HasObject is e × Give x (object_sort whole found e ∷ sorts_at whole found ts))
-        (λ x. HasValue e × Give x (part e ∷ sorts_at whole found ts))
+        (λ x. HasValue e × Reaches whole found (part e) (sorts_at whole found ts)
+        (needs.own is arrays events w a xs b n p) × Give x (part e ∷ sorts_at whole found ts))
         (λ x. ⊥)
     pub spawn : (e : Tree) → Is (t.Shape.spawn e) →
         OnPart (Found is) w n (used_as around.spawned a) xs e → Starts e

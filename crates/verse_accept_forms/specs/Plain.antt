@@ -68,7 +68,7 @@ module _ (is : List ItemTree) (arrays events : ℕ → Bool) (w : World) (a : Ar
     pub event : (v : Written) → Is (t.Shape.event v) → (q : Sort) × Fits (up is) (s.event q) own
     pub bare_event : Is t.Shape.bare_event → (q : Sort) × Fits (up is) (s.event q) own
     pub for_form : (ts : Trees) (e : Tree) → Is (t.Shape.for_form ts e) →
-        Fits (up is) (s.list (part e)) own
+        (q : Sort) × (own ≡ s.list q) × Fits (up is) (part e) q
     pub block_form : (e : Tree) → Is (t.Shape.block_form e) → Fits (up is) (part e) own
     -- tasks
     pub branch : (e : Tree) → Is (t.Shape.branch e) → (b.waits ≡ true) × Fits (up is) s.unit own

@@ -11,7 +11,7 @@ use Rattle.lower_bounds.specs.Programs.{NodeFits}
 use Rattle.lower_bounds.proofs.Lists.{Each}
 use Rattle.lower_simulation_runs.specs.Programs.{NodeStands}
 use Rattle.verse_accept_nodes.specs.Laws.{NodeNames, AcceptedFit, AcceptedNames, AcceptedShaped, AcceptedStand}
-use Rattle.verse_accept_nodes.proofs.Fine.{Fit, good_fit, good_names}
+use Rattle.verse_accept_nodes.proofs.Fine.{NodeNarrow, Fit, good_fit, good_names, good_narrow}
 use Rattle.verse_accept_nodes.proofs.ReadingItems.{all_items_fit}
 use Rattle.verse_accept_nodes.proofs.Files.{accepted_written, all_shaped}
 use Rattle.verse_accept_nodes.proofs.Settled.{kept_stand}
@@ -30,6 +30,10 @@ module _ (files : List (List ℕ)) (is : List ItemTree) (a : Accepts files is) w
 
   pub each_named : Each NodeNames (items_order is)
   each_named = good_names (length files) (items_order is) all_good
+
+  -- the types that are written at them, and the parts of tuples
+  pub each_narrow : Each NodeNarrow (items_order is)
+  each_narrow = good_narrow (length files) (items_order is) all_good
 
   pub shaped_numbered : ProgramsAreShaped → NumberingKeepsShapes → ItemsShaped is
   shaped_numbered shapes numbering =

@@ -1,5 +1,5 @@
 -- The item that a name stands for, if that is an enum, is the first enum of that name; and the names of its values are its values.
-use Rattle.std.proofs.Common.{◌≡◌, ◌⊎◌, inl, inr, ℕ, zero, suc, ◌+◌, ◌==◌, ◌&&◌, Bool, true, false, cond, List, [], ◌∷◌, ◌++◌, map}
+use Rattle.std.proofs.Common.{◌≡◌, ◌⊎◌, inl, inr, ℕ, zero, suc, ◌+◌, Bool, true, false, cond, List, [], ◌∷◌, map}
 use Rattle.std.proofs.Common.{Option, Some, None}
 use Rattle.std.proofs.Common.{refl, ap, sym, subst, ◌∙◌, arith, slice_get}
 use Rattle.std.specs.Str.{bytes_eq}
@@ -18,18 +18,10 @@ use Rattle.verse_meaning_state.specs.Waits.{nth}
 use Rattle.verse_meaning.specs.Programs.{same_name, enums, one_further, place_of, enum_names, enum_val, value_in, Program, named_value}
 use Rattle.verse_meaning.specs.Programs.{pattern_value}
 use Rattle.verse_lex_laws.proofs.Runs.{pointwise_equal}
+use Rattle.verse_check_typing.proofs.MoreNames.{has_with}
+use Rattle.verse_meaning.proofs.Names.{same_bytes}
 use Rattle.lower_simulation_runs.specs.Programs.{is_some}
 use Rattle.verse_accept_nodes.proofs.Visited.{item_table}
-
-same_bytes : (x y : Bytes) → bytes_eq x y ≡ same_name x y
-same_bytes [] [] = refl
-same_bytes [] (c ∷ y) = refl
-same_bytes (b ∷ x) [] = refl
-same_bytes (b ∷ x) (c ∷ y) = rw (same_bytes x y) (by (b == c) (same_name x y))
-  where
-    by : (s r : Bool) → (s && r) ≡ cond s r false
-    by true r = refl
-    by false r = refl
 
 same_by : (x y : Bytes) {v : Bool} → bytes_eq x y ≡ v → same_name x y ≡ v
 same_by x y h = sym (same_bytes x y) ∙ h
@@ -198,27 +190,6 @@ placed_further (Some n) h = refl
 placed_later : (v : Bool) (o : Option ℕ) → is_placed o ≡ true → is_placed (cond v (Some 0) (one_further o)) ≡ true
 placed_later true o h = refl
 placed_later false o h = placed_further o h
-
-has_end : (y v : Bytes) (xs : List Bytes) → has_name y (xs ++ v ∷ []) ≡ true → (has_name y xs ≡ true) ⊎ (bytes_eq y v ≡ true)
-has_end y v [] h = by (bytes_eq y v) refl h
-  where
-    by : (s : Bool) → bytes_eq y v ≡ s → cond s true false ≡ true → (false ≡ true) ⊎ (bytes_eq y v ≡ true)
-    by true k g = inr k
-    by false k g = inl g
-has_end y v (z ∷ xs) h = by (bytes_eq y z) h (λ g. has_end y v xs g)
-  where
-    by : (s : Bool) → cond s true (has_name y (xs ++ v ∷ [])) ≡ true →
-        (has_name y (xs ++ v ∷ []) ≡ true → (has_name y xs ≡ true) ⊎ (bytes_eq y v ≡ true)) →
-        (cond s true (has_name y xs) ≡ true) ⊎ (bytes_eq y v ≡ true)
-    by true g rest = inl refl
-    by false g rest = rest g
-
-has_with : (y v : Bytes) (xs : List Bytes) → has_name y (with_name v xs) ≡ true → (has_name y xs ≡ true) ⊎ (bytes_eq y v ≡ true)
-has_with y v xs h = by (has_name v xs) h
-  where
-    by : (s : Bool) → has_name y (cond s xs (xs ++ v ∷ [])) ≡ true → (has_name y xs ≡ true) ⊎ (bytes_eq y v ≡ true)
-    by true g = inl g
-    by false g = has_end y v xs g
 
 named_in : (y : Bytes) (vs xs : List Bytes) → has_name y (with_names vs xs) ≡ true →
     (has_name y xs ≡ true) ⊎ (is_placed (place_of y vs) ≡ true)

@@ -1,16 +1,19 @@
 -- What an accepted program's items have from each of its files.
-use Rattle.std.proofs.Common.{◌≡◌, ℕ, zero, suc, ◌+◌, ◌<◌, ◌≤◌, List, [], ◌∷◌, length, sym, ◌∙◌, subst, arith}
+use Rattle.std.proofs.Common.{◌≡◌, ℕ, zero, suc, ◌+◌, ◌*◌, ◌<◌, ◌≤◌, List, [], ◌∷◌, length, sym, ◌∙◌, subst, arith}
 use Rattle.verse_base.specs.declared.limits.TheConstants.{MOST_FILE_BYTES}
 use Rattle.verse_tree.specs.ItemTree.{ItemTree}
 use Rattle.verse_tree.specs.Numbering.{items_numbered}
 use Rattle.verse_tree.specs.Shapes.{ItemShaped, ItemsShaped}
 use Rattle.verse_grammar_shapes.specs.ShapeLaws.{ProgramsAreShaped}
 use Rattle.verse_rules.specs.Sound.{BodiesBreak}
+use Rattle.verse_lex.specs.Cut.{AreTokens}
 use Rattle.verse_accept.specs.Stages.{makes_each}
 use Rattle.verse_accept.specs.Fronts.{Cut, Laid, sized, cutting, laying, spelling, all_items, Accepts}
 use Rattle.lower_bounds.proofs.Lists.{Each, each_joined}
 use Rattle.verse_accept_nodes.proofs.Tokens.{TokenFits, tokens_fit}
 use Rattle.verse_accept_nodes.proofs.Toks.{TokFits, toks_fit}
+use Rattle.verse_accept_nodes.proofs.Many.{toks_many}
+use Rattle.verse_accept_nodes.proofs.Reading.{all_fit}
 use Rattle.verse_accept_nodes.proofs.ReadingItems.{FineItem, program_fits}
 
 -- what the items of each file have all have
@@ -43,7 +46,10 @@ one_fits total n bs cs c l is low h g k m =
     let small : length l.bytes ≤ MOST_FILE_BYTES = subst (λ x. length x ≤ MOST_FILE_BYTES) (sym k.0) small_cut in
     let tokens = subst (λ b. Each (TokenFits total b) c.tokens) (sym g.0) (tokens_fit total n cs c.tokens low g.1) in
     let toks = toks_fit total c.bytes c.tokens l.toks (omega arith) tokens k.1 in
-    program_fits total l.bytes small m.0 (subst (λ b. Each (TokFits total b) l.toks) (sym k.0) toks)
+    let many : length l.toks ≤ 4 * length c.bytes =
+    toks_many total n c.bytes c.tokens l.toks (subst (λ b. AreTokens n b c.tokens) (sym g.0) g.1) tokens k.1 in
+    program_fits total l.bytes small m.0 (all_fit total l.bytes l.toks (subst (λ b. Each (TokFits total b) l.toks) (sym k.0) toks)
+    (omega (arith, many, small_cut)))
 
 -- the items as they are written in the files, before they are numbered
 pub record Written (files : List (List ℕ)) (is : List ItemTree) : Type 0 where

@@ -1,7 +1,8 @@
 mod Tokens
 mod Toks
+mod Many
 mod Texts
-mod Fine
+pub mod Fine
 mod Reading
 mod ReadingItems
 mod Files

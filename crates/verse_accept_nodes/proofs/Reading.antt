@@ -1,9 +1,10 @@
 -- The nodes of what toks spell fit, where the toks do.
-use Rattle.std.proofs.Common.{ℕ, ◌≤◌, List, ◌∷◌, length, Option}
+use Rattle.std.proofs.Common.{ℕ, suc, ◌+◌, ◌≤◌, List, [], ◌∷◌, length, Option, arith, length-append}
 use Rattle.verse_base.specs.declared.limits.TheConstants.{MOST_FILE_BYTES}
 use Rattle.verse_layout.specs.declared.toks.TokKind.{TokKind}
 use Rattle.verse_layout.specs.declared.toks.Tok.{Tok}
 use Rattle.verse_tree.specs.Tree.{Bytes, Written, Tree}
+use Rattle.verse_tree.specs.View.{trees}
 use Rattle.verse_grammar.specs.Types.{IsType, AreTypes}
 use Rattle.verse_grammar.specs.Types as y
 use Rattle.verse_grammar.specs.Exprs.{event_at, BracketType, Reads, TypedValue, Control, IsIf, Taken, Chain, Postfixes, Row, Closed, Until}
@@ -14,40 +15,72 @@ use Rattle.lower_bounds.proofs.Lists.{Each, each_joined}
 use Rattle.verse_accept_nodes.proofs.Toks.{TokFits}
 use Rattle.verse_accept_nodes.proofs.Texts.{character_low, pattern_low, pause_low, text_short}
 use Rattle.verse_accept_nodes.proofs.Fine.{FineWritten, FineTree, FineHole, FinePair, FineGiven, both, fine, fine_writtens, fine_trees}
-use Rattle.verse_accept_nodes.proofs.Fine.{fine_holes, fine_pairs, fine_givens, numbered_before}
+use Rattle.verse_accept_nodes.proofs.Fine.{fine_holes, fine_pairs, fine_givens, numbered_before, few_parts}
 
 module _ (files : ℕ) where
-  -- toks of a file with these bytes
+  -- toks of a file with these bytes, no more than a number of 32 bits tells
   abbrev pub ToksFit : List ℕ → List Tok → Type 0
-  ToksFit b ks = Each (TokFits files b) ks
+  ToksFit b [] = Unit {0}
+  ToksFit b (k ∷ ks) = TokFits files b k × ToksFit b ks × (length ks ≤ 4294967295)
+
+  pub all_fit : (b : List ℕ) (ks : List Tok) → Each (TokFits files b) ks → length ks ≤ 4294967295 → ToksFit b ks
+  all_fit b [] h few = tt
+  all_fit b (k ∷ ks) h few = (h.0, all_fit b ks h.1 (omega (arith, few)), omega (arith, few))
 
   -- Of toks that fit: what they spell, which fits, and the toks behind it, which fit too.
 
   -- ---- types
 
+  -- each type has a tok
+  mutual
+    type_long : {b : List ℕ} {ks rest : List Tok} {w : Written} → IsType b ks w rest → suc (length rest) ≤ length ks
+    type_long (y.IsType.type_int h) = omega arith
+    type_long (y.IsType.type_logic h) = omega arith
+    type_long (y.IsType.type_char h) = omega arith
+    type_long (y.IsType.type_string h) = omega arith
+    type_long (y.IsType.type_void h) = omega arith
+    type_long (y.IsType.type_name h) = omega arith
+    type_long (y.IsType.type_option h d) = omega (arith, type_long d)
+    type_long (y.IsType.type_array h hc d) = omega (arith, type_long d)
+    type_long (y.IsType.type_map h d hc e) = omega (arith, type_long d, type_long e)
+    type_long (y.IsType.type_tuple h ho d hs ds hc) = omega (arith, type_long d, types_long ds)
+    type_long (y.IsType.type_task h ho d hc) = omega (arith, type_long d)
+    type_long (y.IsType.type_event h ho d hc) = omega (arith, type_long d)
+    type_long (y.IsType.type_bare_event h ho hc) = omega arith
+
+    types_long : {b : List ℕ} {ks rest : List Tok} {ws : List Written} → AreTypes b ks ws rest → length ws + length rest ≤ length ks
+    types_long (y.AreTypes.one_type d) = omega (arith, type_long d)
+    types_long (y.AreTypes.more_types {ws = ws} {w = w} ds hs d) =
+        omega (arith, types_long ds, type_long d, length-append ws (w ∷ []))
+
   mutual
     pub type_fits : {b : List ℕ} {ks rest : List Tok} {w : Written} → IsType b ks w rest → ToksFit b ks → FineWritten files w ×
         ToksFit b rest
-    type_fits (y.IsType.type_int h) f = (record { fit = λ n. tt }, f.1)
-    type_fits (y.IsType.type_logic h) f = (record { fit = λ n. tt }, f.1)
-    type_fits (y.IsType.type_char h) f = (record { fit = λ n. tt }, f.1)
-    type_fits (y.IsType.type_string h) f = (record { fit = λ n. tt }, f.1)
-    type_fits (y.IsType.type_void h) f = (record { fit = λ n. tt }, f.1)
-    type_fits (y.IsType.type_name h) f = (record { fit = λ n. (record { place = f.0.place; what = tt }, tt) }, f.1)
-    type_fits (y.IsType.type_option h d) f = let r = type_fits d f.1 in (record { fit = λ n. r.0.fit n }, r.1)
-    type_fits (y.IsType.type_array h hc d) f = let r = type_fits d f.1.1 in (record { fit = λ n. r.0.fit n }, r.1)
+    type_fits (y.IsType.type_int h) f = (record { fit = λ n. tt; narrow = λ n. tt }, f.1)
+    type_fits (y.IsType.type_logic h) f = (record { fit = λ n. tt; narrow = λ n. tt }, f.1)
+    type_fits (y.IsType.type_char h) f = (record { fit = λ n. tt; narrow = λ n. tt }, f.1)
+    type_fits (y.IsType.type_string h) f = (record { fit = λ n. tt; narrow = λ n. tt }, f.1)
+    type_fits (y.IsType.type_void h) f = (record { fit = λ n. tt; narrow = λ n. tt }, f.1)
+    type_fits (y.IsType.type_name h) f =
+        (record { fit = λ n. (record { place = f.0.place; what = tt }, tt); narrow = λ n. tt }, f.1)
+    type_fits (y.IsType.type_option h d) f =
+        let r = type_fits d f.1 in (record { fit = λ n. r.0.fit n; narrow = λ n. r.0.narrow n }, r.1)
+    type_fits (y.IsType.type_array h hc d) f =
+        let r = type_fits d f.1.1 in (record { fit = λ n. r.0.fit n; narrow = λ n. r.0.narrow n }, r.1)
     type_fits (y.IsType.type_map h d hc e) f =
         let r = type_fits d f.1 in
         let q = type_fits e r.1.1 in
-        (record { fit = λ n. both files _ _ (r.0.fit n) (q.0.fit _) }, q.1)
-    type_fits (y.IsType.type_tuple {ws = ws} h ho d hs ds hc) f =
+        (record { fit = λ n. both files _ _ (r.0.fit n) (q.0.fit _); narrow = λ n. (r.0.narrow n, q.0.narrow _) }, q.1)
+    type_fits (y.IsType.type_tuple {w = w} {ws = ws} h ho d hs ds hc) f =
         let r = type_fits d f.1.1 in
         let q = types_fit ds r.1.1 in
-        let all = fine_writtens files (_ ∷ ws) (r.0, q.0) in
-        (record { fit = λ n. all.fit n }, q.1.1)
-    type_fits (y.IsType.type_task h ho d hc) f = let r = type_fits d f.1.1 in (record { fit = λ n. r.0.fit n }, r.1.1)
-    type_fits (y.IsType.type_event h ho d hc) f = let r = type_fits d f.1.1 in (record { fit = λ n. r.0.fit n }, r.1.1)
-    type_fits (y.IsType.type_bare_event h ho hc) f = (record { fit = λ n. tt }, f.1.1.1)
+        let all = fine_writtens files (w ∷ ws) (omega (arith, types_long ds, r.1.2)) (r.0, q.0) in
+        (record { fit = λ n. all.fit n; narrow = λ n. (all.many n, all.narrow n) }, q.1.1)
+    type_fits (y.IsType.type_task h ho d hc) f =
+        let r = type_fits d f.1.1 in (record { fit = λ n. r.0.fit n; narrow = λ n. r.0.narrow n }, r.1.1)
+    type_fits (y.IsType.type_event h ho d hc) f =
+        let r = type_fits d f.1.1 in (record { fit = λ n. r.0.fit n; narrow = λ n. r.0.narrow n }, r.1.1)
+    type_fits (y.IsType.type_bare_event h ho hc) f = (record { fit = λ n. tt; narrow = λ n. tt }, f.1.1.1)
 
     types_fit : {b : List ℕ} {ks rest : List Tok} {ws : List Written} → AreTypes b ks ws rest → ToksFit b ks →
         Each (FineWritten files) ws × ToksFit b rest
@@ -60,7 +93,7 @@ module _ (files : ℕ) where
   event_fits : {b : List ℕ} {ks rest : List Tok} {u : Option Written} → BracketType b ks u rest → (k : Tok) → TokFits files b k →
       ToksFit b ks → FineTree files (event_at k u) × ToksFit b rest
   event_fits (x.BracketType.bracket_type ho d hc) k h f =
-      let r = type_fits d f.1 in (fine files h.place (λ n. tt) (λ n. r.0.fit n), r.1.1)
+      let r = type_fits d f.1 in (fine files h.place (λ n. r.0.narrow n) (λ n. r.0.fit n), r.1.1)
   event_fits (x.BracketType.no_bracket_type ho hc) k h f = (fine files h.place (λ n. tt) (λ n. tt), f.1.1)
 
   -- ---- expressions
@@ -82,10 +115,10 @@ module _ (files : ℕ) where
           (fine files f.0.place (λ n. f.0.named h) (λ n. r.0.fit n), r.1)
       phrase_fits (x.Reads.stmt_typed h d) f =
           let r = typed_fits d f.1 in
-          (fine files f.0.place (λ n. f.0.named h) (λ n. both files _ _ (r.0.0.fit n) (r.0.1.fit _)), r.1)
+          (fine files f.0.place (λ n. (f.0.named h, r.0.0.narrow n)) (λ n. both files _ _ (r.0.0.fit n) (r.0.1.fit _)), r.1)
       phrase_fits (x.Reads.stmt_variable h hn d) f =
           let r = typed_fits d f.1.1 in
-          (fine files f.0.place (λ n. f.1.0.named hn) (λ n. both files _ _ (r.0.0.fit n) (r.0.1.fit _)), r.1)
+          (fine files f.0.place (λ n. (f.1.0.named hn, r.0.0.narrow n)) (λ n. both files _ _ (r.0.0.fit n) (r.0.1.fit _)), r.1)
       phrase_fits (x.Reads.stmt_control d) f = control_fits d f
       phrase_fits (x.Reads.stmt_expr d) f = phrase_fits d f
       phrase_fits (x.Reads.body_block d) f = phrase_fits d f
@@ -126,11 +159,11 @@ module _ (files : ℕ) where
           let all = fine_givens files gs r.0 in
           (fine files f.0.place (λ n. tt) (λ n. all.fit n), r.1)
       phrase_fits (x.Reads.brackets h d hc) f = let r = phrase_fits d f.1 in (r.0, r.1.1)
-      phrase_fits (x.Reads.tuple {es = es} h d hs e) f =
+      phrase_fits (x.Reads.tuple {e = t} {es = es} h d hs e) f =
           let r = phrase_fits d f.1 in
           let q = closed_fits e r.1.1 in
           let all = fine_trees files (_ ∷ es) (r.0, q.0) in
-          (fine files f.0.place (λ n. tt) (λ n. all.fit n), q.1)
+          (fine files f.0.place (λ n. few_parts (trees (t ∷ es)) n n) (λ n. all.fit n), q.1)
       phrase_fits (x.Reads.array {es = es} h ho d) f =
           let r = until_fits d f.1.1 in
           let all = fine_trees files es r.0 in
@@ -165,7 +198,7 @@ module _ (files : ℕ) where
       phrase_fits (x.Reads.sync {es = es} h ho d) f =
           let r = until_fits d f.1.1 in
           let all = fine_trees files es r.0 in
-          (fine files f.0.place (λ n. tt) (λ n. all.fit n), r.1)
+          (fine files f.0.place (λ n. few_parts (trees es) n n) (λ n. all.fit n), r.1)
       phrase_fits (x.Reads.race {es = es} h ho d) f =
           let r = until_fits d f.1.1 in
           let all = fine_trees files es r.0 in

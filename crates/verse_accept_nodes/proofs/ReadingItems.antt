@@ -15,7 +15,7 @@ use Rattle.verse_grammar.specs.Items as x
 use Rattle.verse_code.specs.Validity.{IsPlace}
 use Rattle.lower_bounds.proofs.Lists.{Each, each_joined}
 use Rattle.verse_accept_nodes.proofs.Toks.{TokFits}
-use Rattle.verse_accept_nodes.proofs.Fine.{Fit, both}
+use Rattle.verse_accept_nodes.proofs.Fine.{Narrow, Fit, both}
 use Rattle.verse_accept_nodes.proofs.Reading.{ToksFit, type_fits, phrase_fits}
 
 module _ (files : ℕ) where
@@ -26,6 +26,7 @@ module _ (files : ℕ) where
 
   pub record FineFun (f : FunTree) : Type 0 where
     pub place : IsPlace files f.place
+    pub narrow : (n : ℕ) → Narrow (fun_numbered f n).written
     pub fit : (n : ℕ) → Fit files (fun_parts (fun_numbered f n))
 
   pub record FineDefault (d : Option Tree) : Type 0 where
@@ -33,6 +34,7 @@ module _ (files : ℕ) where
 
   pub record FineField (f : FieldTree) : Type 0 where
     pub place : IsPlace files f.place
+    pub narrow : (n : ℕ) → Narrow (field_numbered f n).written
     pub fit : (n : ℕ) → Fit files (field_parts (field_numbered f n))
 
   pub record FineMember (m : MemberTree) : Type 0 where
@@ -87,7 +89,7 @@ module _ (files : ℕ) where
     param_fits : {ks rest : List Tok} {q : ParamTree} → Param b ks q rest → ToksFit files b ks → FineParam q × ToksFit files b rest
     param_fits (x.Param.param h ho d) f =
         let r = type_fits files d f.1.1 in
-        (record { fit = λ n. both files _ _ (r.0.fit n) (record { place = f.0.place; what = f.0.named h }, tt) }, r.1)
+        (record { fit = λ n. both files _ _ (r.0.fit n) (record { place = f.0.place; what = (f.0.named h, r.0.narrow n) }, tt) }, r.1)
 
     param_row_fits : {ks rest : List Tok} {qs : List ParamTree} → ParamRow b ks qs rest → ToksFit files b ks →
         Each FineParam qs × ToksFit files b rest
@@ -108,6 +110,7 @@ module _ (files : ℕ) where
         let s = phrase_fits files b small e q.1.1 in (
           record {
             place = h.place;
+            narrow = λ n. q.0.narrow _;
             fit = λ n. both files _ _ (both files _ _ (all_params qs r.0 n) (q.0.fit _)) (s.0.fit _);
           },
           s.1,
@@ -125,19 +128,19 @@ module _ (files : ℕ) where
     field_fits (x.Field.field_plain h ss ho d e) f =
         let r = type_fits files d (specs_fit ss f.1).1 in
         let q = default_fits e r.1 in
-        (record { place = f.0.place; fit = λ n. both files _ _ (r.0.fit n) (q.0.fit _) }, q.1)
+        (record { place = f.0.place; narrow = λ n. r.0.narrow n; fit = λ n. both files _ _ (r.0.fit n) (q.0.fit _) }, q.1)
     field_fits (x.Field.field_var h vs hn ss ho d e) f =
         let r = type_fits files d (specs_fit ss (specs_fit vs f.1).1).1 in
         let q = default_fits e r.1 in
-        (record { place = f.0.place; fit = λ n. both files _ _ (r.0.fit n) (q.0.fit _) }, q.1)
+        (record { place = f.0.place; narrow = λ n. r.0.narrow n; fit = λ n. both files _ _ (r.0.fit n) (q.0.fit _) }, q.1)
 
     member_fits : {ks rest : List Tok} {m : MemberTree} → Member b ks m rest → ToksFit files b ks → FineMember m × ToksFit files b rest
     member_fits (x.Member.member_field d) f =
         let r = field_fits d f in
-        (record { fit = λ n. both files _ _ (r.0.fit n) (record { place = r.0.place; what = tt }, tt) }, r.1)
+        (record { fit = λ n. both files _ _ (r.0.fit n) (record { place = r.0.place; what = r.0.narrow n }, tt) }, r.1)
     member_fits (x.Member.member_method d) f =
         let r = fun_fits d f in
-        (record { fit = λ n. both files _ _ (r.0.fit n) (record { place = r.0.place; what = tt }, tt) }, r.1)
+        (record { fit = λ n. both files _ _ (r.0.fit n) (record { place = r.0.place; what = r.0.narrow n }, tt) }, r.1)
 
     member_row_fits : {ks rest : List Tok} {ms : List MemberTree} → MemberRow b ks ms rest → ToksFit files b ks →
         Each FineMember ms × ToksFit files b rest
@@ -160,7 +163,7 @@ module _ (files : ℕ) where
         (record { fit = λ n. both files _ _ (all_members ms r.0 n) (record { place = f.0.place; what = tt }, tt) }, r.1)
     item_fits (x.Item.item_function d) f =
         let r = fun_fits d f in
-        (record { fit = λ n. both files _ _ (r.0.fit n) (record { place = r.0.place; what = tt }, tt) }, r.1)
+        (record { fit = λ n. both files _ _ (r.0.fit n) (record { place = r.0.place; what = r.0.narrow n }, tt) }, r.1)
 
     item_row_fits : {ks rest : List Tok} {is : List ItemTree} → ItemRow b ks is rest → ToksFit files b ks →
         Each FineItem is × ToksFit files b rest

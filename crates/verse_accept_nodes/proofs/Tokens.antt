@@ -4,7 +4,7 @@ use Rattle.std.proofs.Common.{Some, None, refl, sym, ap, ◌∙◌, cond, take, 
 use Rattle.std.proofs.lemmas.List.{drop_at}
 use Rattle.std.proofs.Math.Seq.{take-append_seam}
 use Rattle.std.proofs.Common.{subst, arith, nat_lt, nat_le, not, length}
-use Rattle.std.proofs.lemmas.Bool.{leb-true, ltb-false}
+use Rattle.std.proofs.lemmas.Bool.{leb-true, ltb-false, and_parts}
 use Rattle.verse_base.specs.declared.places.Place.{Place}
 use Rattle.verse_base.specs.declared.refusals.Rule.{Rule}
 use Rattle.verse_lex.specs.Texts.{is_quoted, escape}
@@ -20,7 +20,7 @@ use Rattle.verse_lex.specs.declared.tokens.TokenKind.{TokenKind}
 use Rattle.verse_lex.specs.declared.tokens.TokenKind.TheVariants as k
 use Rattle.verse_lex_laws.specs.Spelling as s
 use Rattle.verse_lex_laws.specs.Spelling.{Literal, Number, duration_rule, is_token, Spells, IsSpelled, EachSpelled}
-use Rattle.verse_lex_laws.proofs.Runs.{equal, both}
+use Rattle.verse_lex_laws.proofs.Runs.{equal}
 use Rattle.verse_lex_laws.proofs.Files.{tokens_spelled}
 use Rattle.verse_code.specs.declared.validity.TheConstants.{MOST_PAUSE}
 use Rattle.verse_code.specs.Validity.{IsPlace}
@@ -28,6 +28,7 @@ use Rattle.lower_bounds.proofs.Lists.{Each}
 use Rattle.verse_tree.specs.Tree.{Bytes}
 use Rattle.verse_meaning.specs.Programs.{same_name}
 use Rattle.verse_meaning.specs.Forms.{this_name}
+use Rattle.verse_meaning.proofs.Names.{name_same}
 use Rattle.verse_accept_nodes.specs.Laws.{IsNew}
 
 abbrev pub KindFits : TokenKind → Type 0
@@ -39,6 +40,9 @@ KindFits kind = Unit {0}
 pub record TokenFits (files : ℕ) (bytes : List ℕ) (t : Token) : Type 0 where
   pub place : IsPlace files t.place
   pub kind : KindFits t.kind
+  -- it has bytes, which are some of the file's
+  pub some : t.start < t.end
+  pub within : t.end ≤ length bytes
   -- a name is not that of `Self`, which is a word
   pub named : t.kind ≡ k.Name → IsNew (take (t.end - t.start) (drop t.start bytes))
 
@@ -86,7 +90,7 @@ escape_low b c h =
 
 literal_low : {cs : List ℕ} {c : ℕ} → Literal cs c → c ≤ 255
 literal_low (s.literal_plain {b = b} h e) =
-    let low : b ≤ 126 = leb-true b 126 (both (nat_le b 126) (not (b == 39)) (both (nat_le 32 b) _ h).1).0 in omega arith
+    let low : b ≤ 126 = leb-true b 126 (and_parts (nat_le b 126) (not (b == 39)) (and_parts (nat_le 32 b) _ h).1).0 in omega arith
 literal_low (s.literal_escaped {b = b} {c = c} h) = escape_low b c h
 
 -- ---- pauses
@@ -125,16 +129,6 @@ both_true : (v w : Bool) → cond v w false ≡ true → (v ≡ true) × (w ≡ 
 both_true true w h = (refl, h)
 both_true false w h = absurd (cc)
 
-name_same : (x y : Bytes) → same_name x y ≡ true → x ≡ y
-name_same [] [] h = refl
-name_same [] (c ∷ y) h = absurd (cc)
-name_same (b ∷ x) [] h = absurd (cc)
-name_same (b ∷ x) (c ∷ y) h =
-    let f = both_true (b == c) (same_name x y) h in
-    let e = name_same x y f.1 in
-    let g = equal b c f.0 in
-    cc
-
 -- what is spelled as `Self` is is a word
 not_this : (cs : Bytes) (v : Bool) → same_name this_name cs ≡ v → name_kind cs ≡ k.Name → v ≡ false
 not_this cs false e f = refl
@@ -171,6 +165,36 @@ spanned file bs t d =
     ∙ drop_at ahead (d.front ++ d.behind) t.start begins in
     ap (λ n. take n (drop t.start bs)) long ∙ ap (λ l. take (length d.front) l) rest ∙ take-append_seam d.front d.behind
 
+number_some : {cs : List ℕ} {kind : TokenKind} {rule : Option Rule} → Number cs kind rule → 0 < length cs
+number_some (s.digits d ds h g) = omega arith
+number_some (s.hex_digits d ds h g) = omega arith
+number_some (s.fraction c d cs ds h g i j) = omega arith
+
+literal_some : {cs : List ℕ} {c : ℕ} → Literal cs c → 0 < length cs
+literal_some (s.literal_plain h e) = omega arith
+literal_some (s.literal_escaped h) = omega arith
+
+spelled_some : {within : Bool} {cs : List ℕ} {kind : TokenKind} → Spells within cs (is_token kind) → 0 < length cs
+spelled_some (s.name h g) = omega arith
+spelled_some (s.number d) = number_some d
+spelled_some (s.literal d) = literal_some d
+spelled_some (s.text d) = omega arith
+spelled_some (s.text_open d) = omega arith
+spelled_some (s.text_mid d) = omega arith
+spelled_some (s.text_close d) = omega arith
+spelled_some (s.double h) = omega arith
+spelled_some (s.single h) = omega arith
+spelled_some (s.single_in_hole h e f) = omega arith
+
+-- the span of a token lies in the file
+span_within : (file : ℕ) (bs : List ℕ) (t : Token) → IsSpelled file bs t → t.end ≤ length bs
+span_within file bs t d =
+    let whole : length bs ≡ length d.mark + (length d.before + (length d.front + length d.behind)) =
+    ap length d.whole ∙ length-append d.mark (d.before ++ (d.front ++ d.behind))
+    ∙ ap (λ n. length d.mark + n) (length-append d.before (d.front ++ d.behind)
+    ∙ ap (λ n. length d.before + n) (length-append d.front d.behind)) in
+    omega (arith, whole, d.stop)
+
 -- ---- tokens
 
 each_fits : (files file : ℕ) (bs : List ℕ) (ts : List Token) → file < files → EachSpelled file bs ts → Each (TokenFits files bs) ts
@@ -179,6 +203,8 @@ each_fits files file bs (t ∷ ts) h d = (
   record {
     place = subst (IsPlace files) (sym d.0.place) (stands_behind files file d.0.before h);
     kind = spelled_fits d.0.spelled;
+    some = omega (arith, d.0.start, d.0.stop, spelled_some d.0.spelled);
+    within = span_within file bs t d.0;
     named = λ e. subst IsNew (sym (spanned file bs t d.0)) (spelled_new d.0.spelled e);
   },
   each_fits files file bs ts h d.1,

@@ -1,6 +1,6 @@
 -- What the patterns of enums refer to: an item of that name.
 use Rattle.std.proofs.Common.{◌≡◌, ℕ, Bool, true, false, List, [], ◌∷◌, ◌++◌, length, Option, Some, None, refl, ap, sym}
-use Rattle.std.proofs.Common.{subst, ◌∙◌, append_assoc}
+use Rattle.std.proofs.Common.{subst, ◌∙◌, append_assoc, append-nil}
 use Rattle.verse_base.specs.declared.places.Place.{Place}
 use Rattle.verse_tree.specs.Tree.{Bytes, Written, Writtens, no_writtens, more_writtens, Tree, tree, Shape, Trees, no_trees, more_trees}
 use Rattle.verse_tree.specs.Tree.{Holes, no_holes, more_holes, Pairs, no_pairs, more_pairs, Givens, no_givens, more_givens}
@@ -124,15 +124,11 @@ module _ (table : Table) where
   abbrev Show : Part → Type 0
   Show p = (s : Seen) → Plain s.locals → Shows p s
 
-  append_nil : {A : Type 0} (xs : List A) → xs ++ [] ≡ xs
-  append_nil [] = refl
-  append_nil (x ∷ xs) = ap (λ l. x ∷ l) (append_nil xs)
-
   abbrev nothing : Part
   nothing = record { see = λ s. s; nodes = [] }
 
   nothing_shows : Show nothing
-  nothing_shows s h = record { fresh = []; seen = sym (append_nil s.visits); paired = tt; plain = h }
+  nothing_shows s h = record { fresh = []; seen = sym (append-nil s.visits); paired = tt; plain = h }
 
   abbrev then_part : Part → Part → Part
   then_part p q = record { see = λ s. q.see (p.see s); nodes = p.nodes ++ q.nodes }

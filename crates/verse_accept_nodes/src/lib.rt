@@ -1,10 +1,10 @@
 //! Laws of the nodes of accepted programs: each has what lowering and its theorem ask of it. Read
 //! the definitions in `specs/Laws`, with those of `lower_bounds` and `lower_simulation_runs`.
 //!
-//! In `proofs/`: `Tokens` and `Toks`, tokens and their layout stand in the file; `Texts`, what the
-//! grammar takes from a tok; `Fine`, `Reading` and `ReadingItems`, the nodes of what is spelled
-//! fit;
-//! `Files`, all files of a program; `ByParts`, what nodes have by what their parts have; `Settled`,
+//! In `proofs/`: `Tokens` and `Toks`, tokens and their layout stand in the file; `Many`, how many
+//! they are; `Texts`, what the grammar takes from a tok; `Fine`, `Reading` and `ReadingItems`, the
+//! nodes of what is spelled fit, and the types that are written at them are not too wide; `Files`,
+//! all files of a program; `ByParts`, what nodes have by what their parts have; `Settled`,
 //! what is left to the rules at single nodes; `Plain` and `Visited`, what the patterns of enums
 //! refer to; `Enums`, which value that is; `Rules`, what the rules of types leave; `Accepted`, the
 //! laws.

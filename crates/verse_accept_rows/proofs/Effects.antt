@@ -4,6 +4,7 @@ use Rattle.std.proofs.Common.{refl, sym, ap, ◌∙◌}
 use Rattle.std.proofs.Common.{arith, subst, slice_get, nat_eq, length-append}
 use Rattle.std.proofs.lemmas.Bool.Decides.{nat_tests}
 use Rattle.std.specs.Prelude.{Some, None}
+use Rattle.verse_base.proofs.Facts.{get_front, get_last}
 use Rattle.verse_tree.specs.Tree.{Shape}
 use Rattle.verse_tree.specs.Tree as s
 use Rattle.verse_tree.specs.PostOrder.{What, program, item, member, parameter, type_name, expression}
@@ -22,7 +23,6 @@ use Rattle.verse_accept_scopes.specs.Lists.{Each}
 use Rattle.verse_accept_scopes.specs.Sites.{Site, node_of}
 use Rattle.verse_accept_scopes.proofs.Rows.{Row}
 use Rattle.verse_accept_rows.specs.Agreeing.{LowRef}
-use Rattle.verse_accept_rows.proofs.Passing.{get_front, get_last}
 use Rattle.verse_accept_rows.proofs.Quiet.{none_true}
 
 same_shape_defines : (e : Shape) → is_variable_node (expression e) ≡ defines_variable (expression e)

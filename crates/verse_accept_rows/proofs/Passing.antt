@@ -1,9 +1,10 @@
 -- What the passes find at a node stands there when all nodes are seen.
-use Rattle.std.proofs.Common.{◌≡◌, ℕ, zero, suc, ◌+◌, ◌<◌, ◌≤◌, Bool, true, false, cond, List, [], ◌∷◌, ◌++◌, map, length}
+use Rattle.std.proofs.Common.{◌≡◌, ℕ, suc, ◌+◌, ◌<◌, ◌≤◌, Bool, true, false, cond, List, [], ◌∷◌, ◌++◌, map, length}
 use Rattle.std.proofs.Common.{Option, refl, sym, ap, ◌∙◌}
 use Rattle.std.proofs.Common.{arith, subst, slice_get, nat_eq, length-append}
 use Rattle.std.proofs.lemmas.Bool.Decides.{nat_tests}
 use Rattle.std.specs.Prelude.{Some, None}
+use Rattle.verse_base.proofs.Facts.{get_front, get_last}
 use Rattle.verse_tree.specs.Tree.{Bytes, Shape}
 use Rattle.verse_tree.specs.Tree as s
 use Rattle.verse_tree.specs.PostOrder.{What, program, item, member, parameter, type_name, expression}
@@ -25,15 +26,6 @@ use Rattle.verse_accept_scopes.specs.Laws.{parts_of, Stands}
 use Rattle.verse_accept_scopes.proofs.Rows.{Row}
 use Rattle.verse_accept_rows.specs.Agreeing.{LowRef, Agree}
 use Rattle.verse_accept_rows.proofs.Forms.{same_judge, same_rules, same_ref_by}
-
-pub get_front : {A : Type 0} (xs ys : List A) (m : ℕ) → m < length xs → slice_get (xs ++ ys) m ≡ slice_get xs m
-get_front [] ys m h = absurd (omega (arith, h))
-get_front (x ∷ xs) ys zero h = refl
-get_front (x ∷ xs) ys (suc m) h = get_front xs ys m (omega (arith, h))
-
-pub get_last : {A : Type 0} (xs : List A) (y : A) → slice_get (xs ++ y ∷ []) (length xs) ≡ Some y
-get_last [] y = refl
-get_last (x ∷ xs) y = get_last xs y
 
 -- ---- the loops that are left
 

@@ -1,5 +1,5 @@
 -- A table of rules of which none is broken, and a pass that breaks none.
-use Rattle.std.proofs.Common.{◌≡◌, ℕ, zero, suc, Bool, true, false, not, cond, List, [], ◌∷◌, Option, refl, sym, subst}
+use Rattle.std.proofs.Common.{◌≡◌, ℕ, zero, suc, Bool, true, false, cond, List, [], ◌∷◌, Option, refl, sym, subst}
 use Rattle.std.specs.Prelude.{Some, None, slice_get}
 use Rattle.verse_rules_least.specs.Least.{first_true, Holds, this, other, Broken, here, later}
 use Rattle.verse_accept_scopes.specs.Lists.{Each}
@@ -31,10 +31,6 @@ first_kept c b rs h = (not_broken b c (first_true rs) h).0
 
 pub rest_kept : (c : ℕ) (b : Bool) (rs : List (ℕ × Bool)) → first_true ((c, b) ∷ rs) ≡ None → first_true rs ≡ None
 rest_kept c b rs h = (not_broken b c (first_true rs) h).1
-
-pub not_not : (b : Bool) → not b ≡ false → b ≡ true
-not_not true h = refl
-not_not false h = cc
 
 -- a pass whose rules ask nothing of its state
 pub each_quiet : {N S : Type 0} (number : N → ℕ) (step : N → S → S) (Breaks : N → S → ℕ → Type 0) (vs : List N) (s : S) →

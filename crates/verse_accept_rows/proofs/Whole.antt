@@ -3,6 +3,7 @@ use Rattle.std.proofs.Common.{◌≡◌, ℕ, ◌<◌, true, not, List, [], ◌�
 use Rattle.std.proofs.Common.{inl, inr}
 use Rattle.std.proofs.Common.{arith, subst}
 use Rattle.std.specs.Prelude.{None}
+use Rattle.std.proofs.lemmas.Bool.{not-false}
 use Rattle.verse_tree.specs.ItemTree.{ItemTree}
 use Rattle.verse_tree.specs.Shapes.{ItemsShaped}
 use Rattle.verse_rules_least.specs.Least.{each, first_true, Broken}
@@ -27,7 +28,7 @@ use Rattle.verse_accept_scopes.proofs.Whole.{walked_are_sites, sites_stand, worl
 use Rattle.verse_accept_rows.specs.Agreeing.{LowRef}
 use Rattle.verse_accept_rows.specs.Found.{final, Found}
 use Rattle.verse_accept_rows.specs.Laws.{AllFound, ItemsFound}
-use Rattle.verse_accept_rows.proofs.Quiet.{none_true, first_kept, rest_kept, not_not}
+use Rattle.verse_accept_rows.proofs.Quiet.{none_true, first_kept, rest_kept}
 use Rattle.verse_accept_rows.proofs.Naming.{WideWorld, outside_wide, inside_wide, refers_low}
 use Rattle.verse_accept_rows.proofs.Names.{Named, all_named, NamesKept, all_kept}
 use Rattle.verse_accept_rows.proofs.Passing.{Typed, NamedLow, each_typed, ref_low}
@@ -47,7 +48,7 @@ module _ (f : Facts) (v : Node) (h : first_true (rules_at f v) ≡ None) where
   own_is = ap (cut (type_by f v.number v.what)) own_kept
 
   serves_own : serves_as f v.around.used v.what (own f v).ty ≡ true
-  serves_own = not_not (serves_as f v.around.used v.what (own f v).ty)
+  serves_own = not-false (serves_as f v.around.used v.what (own f v).ty)
       (first_kept 50 (not (serves_as f v.around.used v.what (own f v).ty)) (own_rules f v.around v.number v.what) h)
 
   its_type : (judge f v).ty ≡ type_by f v.number v.what
@@ -82,7 +83,7 @@ module _ (is : List ItemTree) (shaped : ItemsShaped is) (numbered : AreNumbered 
 
   lows : Each (NamedLow k) sites
   lows =
-      let wide = worlds_are WideWorld is (outside_wide is) (inside_wide is) shaped in
+      let wide = worlds_are WideWorld is (outside_wide is) (λ c l. inside_wide is c) shaped in
       let both = each_both (λ (v : Site). WideWorld v.world × Stands v) (λ v w s. (w, s)) sites wide stand in
       each_both (NamedLow k) (λ v p e. low_at v p.0 p.1 e) sites both names
 

@@ -1,8 +1,10 @@
 -- The nodes that are walked and those whose names are looked up are the sites, and parts are numbered below the whole.
-use Rattle.std.proofs.Common.{◌≡◌, ℕ, suc, ◌<◌, ◌≤◌, Bool, true, false, List, [], ◌∷◌, ◌++◌, map, Option, refl, ap, sym, ◌∙◌}
+use Rattle.std.proofs.Common.{◌≡◌, ℕ, suc, ◌+◌, ◌<◌, ◌≤◌, Bool, true, false, List, [], ◌∷◌, ◌++◌, map, length, Option, refl, ap, sym, ◌∙◌}
 use Rattle.std.proofs.Common.{append_assoc}
-use Rattle.std.proofs.Common.{subst, arith}
+use Rattle.std.proofs.Common.{subst, arith, append-nil}
 use Rattle.std.specs.Prelude.{Some, None}
+use Rattle.std.proofs.lemmas.List.{map-append}
+use Rattle.std.proofs.lemmas.Option.{same_Some}
 use Rattle.verse_base.specs.declared.places.Place.{Place}
 use Rattle.verse_tree.specs.Tree.{Bytes, Written, Writtens, no_writtens, more_writtens, Tree, tree, Shape, Trees, no_trees, more_trees}
 use Rattle.verse_tree.specs.Tree.{Holes}
@@ -23,7 +25,7 @@ use Rattle.verse_tree.specs.declared.tables.Ref.TheVariants as ref
 use Rattle.verse_names_declarations.specs.Names.{Table}
 use Rattle.verse_names_declarations.specs.Counting.{counted, counts_after, no_counts}
 use Rattle.verse_names_declarations.specs.declared.counting.Counts.{Counts}
-use Rattle.verse_names_declarations.specs.Known.{Known, known}
+use Rattle.verse_names_declarations.specs.Known.{notes, Known, known}
 use Rattle.verse_names_scopes.specs.Visible.{World, inside, visible, with_name, with_local}
 use Rattle.verse_names_scopes.specs.Visible as worlds
 use Rattle.verse_names_scopes.specs.Subjects.{Subject, quiet, subject, locals_behind}
@@ -48,7 +50,7 @@ use Rattle.verse_accept_scopes.specs.Sites.{written_sites, writtens_sites, tree_
 use Rattle.verse_accept_scopes.specs.Sites.{argument_sites, holes_sites, pairs_sites, givens_sites, params_sites, fun_sites, default_sites}
 use Rattle.verse_accept_scopes.specs.Sites.{field_sites, member_parts, member_site, members_sites, item_parts, item_site, items_sites}
 use Rattle.verse_accept_scopes.specs.Laws.{parts_of, LocalBelow, Stands}
-use Rattle.verse_accept_scopes.proofs.Rows.{map_append, append_nil, each_joined, Row, split, rises, last_number, all_below}
+use Rattle.verse_accept_scopes.proofs.Rows.{each_joined, Row, split, rises, last_number, all_below}
 
 -- a part of a program: how it is visited, the names behind it, its sites by the names before it, and its nodes
 pub record Part : Type 0 where
@@ -107,7 +109,7 @@ with_visits s vs e = ap (λ (l : List Visit). record { locals = s.locals; visits
 
 nothing_agrees : {In : World → Type 0} {ls bs : List ℕ} → Agree In ls bs nothing
 nothing_agrees s = record {
-  seen = with_visits s (s.visits ++ []) (append_nil s.visits);
+  seen = with_visits s (s.visits ++ []) (append-nil s.visits);
   walked = refl;
   stand = λ lo hi r b a m. tt;
   names = λ lo hi r m. subst (λ (k : ℕ). NamesBelow k s.locals) r m;
@@ -138,9 +140,9 @@ in_turn_above {In} {ls} {bs} {p} {q} ms up f g s =
       seen =
           ap q.see (f s).seen ∙ (g middle).seen
           ∙ ap (with_list (q.names ys)) (append_assoc s.visits (map visit_of own) (map visit_of (q.sites ys)))
-          ∙ ap (λ (l : List Visit). with_list (q.names ys) (s.visits ++ l)) (sym (map_append visit_of own (q.sites ys)));
+          ∙ ap (λ (l : List Visit). with_list (q.names ys) (s.visits ++ l)) (sym (map-append visit_of own (q.sites ys)));
       walked =
-          map_append node_of own (q.sites ys) ∙ ap (λ (l : List Node). l ++ map node_of (q.sites ys)) (f s).walked
+          map-append node_of own (q.sites ys) ∙ ap (λ (l : List Node). l ++ map node_of (q.sites ys)) (f s).walked
           ∙ ap (λ (l : List Node). p.nodes ++ l) (g middle).walked;
       stand = λ lo hi r b a m.
           let c = split lo own (q.sites ys) hi r in
@@ -229,12 +231,9 @@ used_list u = []
 abbrev pub callees : Around → List ℕ
 callees a = used_list a.used
 
-same_number : (m n : ℕ) → Some m ≡ Some n → m ≡ n
-same_number m n e = cc
-
 loop_above : (o : Option ℕ) (h n m : ℕ) → suc n ≡ h → Below (loop_list o) h → o ≡ Some m → n < m
 loop_above None h n m e b f = cc
-loop_above (Some k) h n m e b f = omega (arith, e, b.0, same_number k m f)
+loop_above (Some k) h n m e b f = omega (arith, e, b.0, same_Some k m f)
 
 same_callee : (c d i j : ℕ) → argument c i ≡ argument d j → c ≡ d
 same_callee c d i j e = cc
@@ -432,9 +431,9 @@ module _ (In : World → Type 0) (w : World) (home : In w) where
         seen =
             ap (visit w n p (subject n e)) (f s).seen
             ∙ ap (with_list (behind w (tree n p e) s.locals)) (append_assoc s.visits (map visit_of own) (visit_of at ∷ []))
-            ∙ ap (λ (l : List Visit). with_list (behind w (tree n p e) s.locals) (s.visits ++ l)) (sym (map_append visit_of own (at ∷ [])));
+            ∙ ap (λ (l : List Visit). with_list (behind w (tree n p e) s.locals) (s.visits ++ l)) (sym (map-append visit_of own (at ∷ [])));
         walked =
-            map_append node_of own (at ∷ []) ∙ ap (λ (l : List Node). l ++ node n p a (expression e) ∷ []) (f s).walked;
+            map-append node_of own (at ∷ []) ∙ ap (λ (l : List Node). l ++ node n p a (expression e) ∷ []) (f s).walked;
         stand = λ lo hi r b c m.
             let d = split lo own (at ∷ []) hi r in
             let here : suc n ≡ hi = omega (arith, d.rest.0, d.rest.1) in
@@ -759,7 +758,25 @@ module _ (In : World → Type 0) (w : World) (home : In w) where
   field_agrees : (d : FieldTree) → FieldShaped d → Agree In [] [] (field_part d)
   field_agrees d h = in_turn (written_agrees outside false d.written) (default_agrees d.written d.default h.1)
 
-module _ (In : World → Type 0) (k : Known) (out : In (worlds.outside k)) (within : (c : ℕ) → In (inside k c)) where
+-- Is says which classes there are
+abbrev pub IsAt : (Is : ℕ → Type 0) → ItemTree → Counts → Type 0
+IsAt Is (class d) c = Is c.classes
+IsAt Is i c = Unit {0}
+
+abbrev pub AreAt : (Is : ℕ → Type 0) → Counts → List ItemTree → Type 0
+AreAt Is c [] = Unit {0}
+AreAt Is c (i ∷ is) = IsAt Is i c × AreAt Is (counts_after i c) is
+
+-- the classes of a program have numbers below how many they are
+classes_at : (all : ℕ) (c : Counts) (is : List ItemTree) → c.classes + length (notes (counted c is)) ≤ all → AreAt (λ n. n < all) c is
+classes_at all c [] h = tt
+classes_at all c (using i ∷ is) h = (tt, classes_at all c is h)
+classes_at all c (enumeration e ∷ is) h = (tt, classes_at all (counts_after (enumeration e) c) is h)
+classes_at all c (class d ∷ is) h = (omega (arith, h), classes_at all (counts_after (class d) c) is (omega (arith, h)))
+classes_at all c (function f ∷ is) h = (tt, classes_at all (counts_after (function f) c) is h)
+
+module _ (In : World → Type 0) (Is : ℕ → Type 0) (k : Known) (out : In (worlds.outside k))
+    (within : (c : ℕ) → Is c → In (inside k c)) where
   abbrev member_whole : World → World → MemberTree → Part
   member_whole w v m = record {
     see = through_member visit leave k w v m;
@@ -794,13 +811,13 @@ module _ (In : World → Type 0) (k : Known) (out : In (worlds.outside k)) (with
     nodes = walked.item_parts i ++ item_node i ∷ [];
   }
 
-  item_agrees : (i : ItemTree) (c : Counts) → ItemShaped i → Agree In [] [] (item_whole i c)
-  item_agrees (using i) c h = node_agrees In (worlds.outside k) out i.number i.place outside (item (using i)) quiet refl tt
-  item_agrees (enumeration e) c h = node_agrees In (worlds.outside k) out e.number e.place outside (item (enumeration e)) quiet refl tt
-  item_agrees (class d) c h =
-      in_turn (members_agree (worlds.outside k) (inside k c.classes) out (within c.classes) d.members h)
+  item_agrees : (i : ItemTree) (c : Counts) → IsAt Is i c → ItemShaped i → Agree In [] [] (item_whole i c)
+  item_agrees (using i) c n h = node_agrees In (worlds.outside k) out i.number i.place outside (item (using i)) quiet refl tt
+  item_agrees (enumeration e) c n h = node_agrees In (worlds.outside k) out e.number e.place outside (item (enumeration e)) quiet refl tt
+  item_agrees (class d) c n h =
+      in_turn (members_agree (worlds.outside k) (inside k c.classes) out (within c.classes n) d.members h)
       (node_agrees In (worlds.outside k) out d.number d.place outside (item (class d)) quiet refl tt)
-  item_agrees (function f) c h =
+  item_agrees (function f) c n h =
       in_turn (fun_agrees In (worlds.outside k) out f h)
       (node_agrees In (worlds.outside k) out f.number f.place outside (item (function f)) quiet refl tt)
 
@@ -812,10 +829,17 @@ module _ (In : World → Type 0) (k : Known) (out : In (worlds.outside k)) (with
     nodes = items_nodes is;
   }
 
-  items_agree : (c : Counts) (is : List ItemTree) → ItemsShaped is → Agree In [] [] (items_part c is)
-  items_agree c [] h = nothing_agrees
-  items_agree c (i ∷ is) h = in_turn (item_agrees i c h.0) (items_agree (counts_after i c) is h.1)
+  items_agree : (c : Counts) (is : List ItemTree) → AreAt Is c is → ItemsShaped is → Agree In [] [] (items_part c is)
+  items_agree c [] n h = nothing_agrees
+  items_agree c (i ∷ is) n h = in_turn (item_agrees i c n.0 h.0) (items_agree (counts_after i c) is n.1 h.1)
+
+-- a class of this number
+abbrev pub InClasses : List ItemTree → ℕ → Type 0
+InClasses is c = c < length (known is).notes
 
 pub program_agrees : (In : World → Type 0) (is : List ItemTree) (out : In (worlds.outside (known is)))
-    (within : (c : ℕ) → In (inside (known is) c)) → ItemsShaped is → Agree In [] [] (items_part In (known is) out within no_counts is)
-program_agrees In is out within h = items_agree In (known is) out within no_counts is h
+    (within : (c : ℕ) → InClasses is c → In (inside (known is) c)) → ItemsShaped is →
+    Agree In [] [] (items_part In (InClasses is) (known is) out within no_counts is)
+program_agrees In is out within h =
+    items_agree In (InClasses is) (known is) out within no_counts is
+    (classes_at (length (known is).notes) no_counts is (omega arith)) h

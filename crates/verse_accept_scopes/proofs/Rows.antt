@@ -2,17 +2,10 @@
 use Rattle.std.proofs.Common.{◌≡◌, ℕ, zero, suc, ◌+◌, ◌<◌, ◌≤◌, List, [], ◌∷◌, ◌++◌, map, length, refl, ap, sym, ◌∙◌, arith, subst}
 use Rattle.std.specs.Prelude.{Some, slice_get}
 use Rattle.std.specs.List.{range_with_len}
+use Rattle.std.proofs.lemmas.List.{length-map}
 use Rattle.verse_rules_walk.specs.Nodes.{Node, number_of}
 use Rattle.verse_accept_scopes.specs.Lists.{Each}
 use Rattle.verse_accept_scopes.specs.Sites.{Site, node_of}
-
-pub map_append : {A B : Type 0} (f : A → B) (xs ys : List A) → map f (xs ++ ys) ≡ map f xs ++ map f ys
-map_append f [] ys = refl
-map_append f (x ∷ xs) ys = ap (λ l. f x ∷ l) (map_append f xs ys)
-
-pub append_nil : {A : Type 0} (xs : List A) → xs ++ [] ≡ xs
-append_nil [] = refl
-append_nil (x ∷ xs) = ap (λ l. x ∷ l) (append_nil xs)
 
 pub each_first : {X : Type 0} (P : X → Type 0) (xs ys : List X) → Each P (xs ++ ys) → Each P xs
 each_first P [] ys h = tt
@@ -69,14 +62,10 @@ in_row n (v ∷ vs) e =
     let rest = in_row (suc n) vs (behind ∙ ap (λ k. range_with_len k (length vs)) same) in
     (here, subst (Row (suc n) vs) (let more : suc n + length vs ≡ n + suc (length vs) = omega arith in more) rest)
 
-map_length : {A B : Type 0} (f : A → B) (xs : List A) → length (map f xs) ≡ length xs
-map_length f [] = refl
-map_length f (x ∷ xs) = ap suc (map_length f xs)
-
 pub row_of : (vs : List Site) (us : List Node) → map node_of vs ≡ us → map number_of us ≡ range_with_len 0 (length us) →
     Row 0 vs (length vs)
 row_of vs us e h =
-    let long : length us ≡ length vs = sym (ap length e) ∙ map_length node_of vs in
+    let long : length us ≡ length vs = sym (ap length e) ∙ length-map vs node_of in
     let row = in_row 0 vs (ap (map number_of) e ∙ h ∙ ap (range_with_len 0) long) in
     subst (Row 0 vs) (let same : 0 + length vs ≡ length vs = omega arith in same) row
 

@@ -1,5 +1,5 @@
 -- The laws of the nodes of a program.
-use Rattle.std.proofs.Common.{◌≡◌, ℕ, ◌+◌, List, [], length, ap, arith}
+use Rattle.std.proofs.Common.{◌≡◌, ℕ, ◌+◌, ◌<◌, List, [], length, ap, arith}
 use Rattle.verse_tree.specs.ItemTree.{ItemTree}
 use Rattle.verse_tree.specs.PostOrder.{items_order, program_place}
 use Rattle.verse_tree.specs.Shapes.{ItemsShaped}
@@ -21,12 +21,12 @@ abbrev Any : World → Type 0
 Any w = Unit {0}
 
 pub walked_are_sites : WalkedAreSites
-walked_are_sites is h = (program_agrees Any is tt (λ c. tt) h nothing_seen).walked
+walked_are_sites is h = (program_agrees Any is tt (λ c l. tt) h nothing_seen).walked
 
 pub visits_are_sites : VisitsAreSites
 visits_are_sites is h =
     ap (λ (s : Seen). (visit (outside (known is)) (length (items_order is)) program_place quiet s).visits)
-    (program_agrees Any is tt (λ c. tt) h nothing_seen).seen
+    (program_agrees Any is tt (λ c l. tt) h nothing_seen).seen
 
 program_row : (is : List ItemTree) → ItemsShaped is → AreNumbered is → Row 0 (program_sites is) (length (program_sites is))
 program_row is h n = row_of (program_sites is) (items_nodes is) (walked_are_sites is h) (numbers_in_row is n)
@@ -37,12 +37,13 @@ sites_in_row is h n i v e =
     omega (arith, there)
 
 pub sites_stand : SitesStand
-sites_stand is h n = (program_agrees Any is tt (λ c. tt) h nothing_seen).stand 0 (length (program_sites is)) (program_row is h n) tt tt tt
+sites_stand is h n = (program_agrees Any is tt (λ c l. tt) h nothing_seen).stand 0 (length (program_sites is)) (program_row is h n) tt tt tt
 
 pub holds_on_items : HoldsOnItems
 holds_on_items P is h n e = all_on P (known is) [] (known is).items (length (program_sites is)) (program_row is h n) e
 
--- each site is in a world of the program
-pub worlds_are : (In : World → Type 0) (is : List ItemTree) → In (outside (known is)) → ((c : ℕ) → In (inside (known is) c)) →
+-- each site is in a world of the program, outside the classes or inside one of them
+pub worlds_are : (In : World → Type 0) (is : List ItemTree) → In (outside (known is)) →
+    ((c : ℕ) → c < length (known is).notes → In (inside (known is) c)) →
     ItemsShaped is → Each (λ (v : Site). In v.world) (program_sites is)
 worlds_are In is out within h = (program_agrees In is out within h nothing_seen).worlds

@@ -2,6 +2,8 @@
 use Rattle.std.proofs.Common.{◌≡◌, ℕ, zero, suc, Bool, true, false, cond, not, ◌&&◌, ◌||◌, List, [], ◌∷◌, ◌++◌, map, Option, refl, sym}
 use Rattle.std.proofs.Common.{ap, ◌∙◌, subst, codes, bytes_eq}
 use Rattle.std.specs.Prelude.{Some, None, slice_get, is_some, option_map}
+use Rattle.std.proofs.lemmas.Option.{same_Some}
+use Rattle.verse_base.proofs.Facts.{get_mapped, none_is}
 use Rattle.verse_tree.specs.Tree.{Bytes, Written, Tree, tree}
 use Rattle.verse_tree.specs.ItemTree.{SpecTree, FieldTree, ParamTree, FunTree, ItemTree}
 use Rattle.verse_tree.specs.PostOrder.{expression, parameter}
@@ -30,6 +32,7 @@ use Rattle.verse_rules.specs.Naming.{made_function}
 use Rattle.verse_rules.specs.Sound.{completed, types_of, IsSound}
 use Rattle.verse_meaning.specs.Programs.{Program, fun_of_info}
 use Rattle.verse_meaning_state.specs.Waits.{nth}
+use Rattle.verse_meaning_state.proofs.Numbers.{nth_is}
 use Rattle.verse_sorts.specs.Sorts as s
 use Rattle.verse_sorts.specs.Sorts.{Sort, Fits}
 use Rattle.verse_sorts.specs.Typing.{at}
@@ -53,13 +56,12 @@ use Rattle.verse_accept_classes.specs.Owners.{Owned, owned, world_in}
 use Rattle.verse_accept_classes.specs.Referring.{Names}
 use Rattle.verse_accept_classes.specs.Referring as items
 use Rattle.verse_accept_classes.specs.Laws.{Quiet, FunctionsStand, info_of}
-use Rattle.verse_accept_classes.proofs.Fields.{nth_is}
 use Rattle.verse_accept_classes.proofs.Functions.{on_owned}
 use Rattle.verse_accept_classes.proofs.Tables.{of_made, fields_agree_all, names_stand, all_written_agrees}
 use Rattle.verse_accept_classes.proofs.Bodies.{fields_on}
 use Rattle.verse_accept_fine.specs.Sorted.{ty_at, all_classes, up, made_sort, field_sort, lasts, class_in, signature_of, sorted, program}
 use Rattle.verse_accept_fine.specs.Sorted.{Allows, written_sort}
-use Rattle.verse_accept_fine.proofs.Names.{none_is, not_local, added, get_map, get_map_slice}
+use Rattle.verse_accept_fine.proofs.Names.{not_local, added, get_map}
 use Rattle.verse_accept_trees.specs.Names.{Named}
 use Rattle.verse_accept_trees.specs.Laws.{Told, TreesAreFine}
 use Rattle.verse_accept_sound.proofs.Shapes.{get_each, as_a_body, all_owned_shaped, fields_shaped}
@@ -230,7 +232,7 @@ module _ (is : List ItemTree) (arrays events : ℕ → Bool) (told : Told is arr
     slot_is =
         ap (λ l. at l i) (slots_are c)
         ∙ get_map field_sort (map (info_of is) (items.fields_of is c)) i (info_of is d)
-        (get_map_slice (info_of is) (items.fields_of is c) i d there)
+        (get_mapped (info_of is) (items.fields_of is c) i d there)
 
     on_field : (P : Site → Type 0) → Each P (program_sites is) → OnField P (worlds.outside (known is)) [] d
     on_field P h = fields_on P is quiet (holds_on_items P is shaped numbered h) c i d there
@@ -267,10 +269,7 @@ module _ (is : List ItemTree) (arrays events : ℕ → Bool) (told : Told is arr
               (fits_sort (all_classes is) (ty_at is n) (rows.spelled (final is) d.written) on.1.serves);
         }
 
-  only : (q r : Sort) → Some q ≡ Some r → q ≡ r
-  only q r e = cc
-
   pub defaults_fine : (b : Tree) (q : Sort) → IsDefault whole found b q → FineDefault whole found b q
   defaults_fine b q (is_default c i d e f h) =
       let there : slice_get (items.fields_of is c) i ≡ Some d = sym (nth_is (items.fields_of is c) i) ∙ e in
-      subst (FineDefault whole found b) (only _ _ (sym (slot_is c i d there) ∙ h)) (default_fine c i d there b f)
+      subst (FineDefault whole found b) (same_Some _ _ (sym (slot_is c i d there) ∙ h)) (default_fine c i d there b f)

@@ -3,6 +3,7 @@ use Rattle.std.proofs.Common.{◌≡◌, ℕ, zero, suc, ◌+◌, Bool, true, fa
 use Rattle.std.proofs.Common.{subst, arith}
 use Rattle.std.specs.Prelude.{Some, None, slice_get}
 use std.Path.{fun_ext}
+use Rattle.verse_base.proofs.Facts.{and_first, and_second, get_mapped, mapped_get}
 use Rattle.verse_tree.specs.ItemTree.{FieldTree, FunTree, ItemTree}
 use Rattle.verse_tree.specs.declared.tables.Effects.{Effects}
 use Rattle.verse_tree.specs.declared.tables.ClassInfo.{ClassInfo}
@@ -36,8 +37,7 @@ use Rattle.verse_accept_classes.proofs.Methods.{over_on}
 use Rattle.verse_accept_classes.proofs.Tables.{of_made, fields_agree_all, parents_are, classes_inherit, methods_owned}
 use Rattle.verse_accept_fine.specs.Sorted.{up, made_sort, field_sort, lasts, class_in, signature_of, sorted, program}
 use Rattle.verse_accept_fine.proofs.Calls.{class_entry}
-use Rattle.verse_accept_fine.proofs.Names.{get_map, get_map_slice}
-use Rattle.verse_accept_fine.proofs.Rules.{and_left, and_right}
+use Rattle.verse_accept_fine.proofs.Names.{get_map}
 
 -- ---- lists
 
@@ -47,20 +47,9 @@ map_at f [] i y e = cc
 map_at f (x ∷ xs) zero y e = (x, refl, (let same : f x ≡ y = cc in same))
 map_at f (x ∷ xs) (suc i) y e = map_at f xs i y e
 
-map_get : {A B : Type 0} (f : A → B) (xs : List A) (i : ℕ) (y : B) → slice_get (map f xs) i ≡ Some y →
-    (x : A) × (slice_get xs i ≡ Some x) × (f x ≡ y)
-map_get f [] i y e = cc
-map_get f (x ∷ xs) zero y e = (x, refl, (let same : f x ≡ y = cc in same))
-map_get f (x ∷ xs) (suc i) y e = map_get f xs i y e
-
-map_none : {A B : Type 0} (f : A → B) (xs : List A) (i : ℕ) → slice_get xs i ≡ None → slice_get (map f xs) i ≡ None
-map_none f [] i e = refl
-map_none f (x ∷ xs) zero e = cc
-map_none f (x ∷ xs) (suc i) e = map_none f xs i e
-
 -- ---- marks, and the types of parameters
 
-same_mark : (b c : Bool) → is_same_mark b c ≡ true → b ≡ c
+pub same_mark : (b c : Bool) → is_same_mark b c ≡ true → b ≡ c
 same_mark true true h = refl
 same_mark true false h = cc
 same_mark false true h = cc
@@ -71,10 +60,10 @@ same_types [] [] h = refl
 same_types [] (v ∷ vs) h = cc
 same_types (u ∷ us) [] h = cc
 same_types (u ∷ us) (v ∷ vs) h =
-    ap (λ x. x ∷ us) (same u v (and_left (is_same u v) _ h)) ∙ ap (λ l. v ∷ l) (same_types us vs (and_right (is_same u v) _ h))
+    ap (λ x. x ∷ us) (same u v (and_first (is_same u v) _ h)) ∙ ap (λ l. v ∷ l) (same_types us vs (and_second (is_same u v) _ h))
 
 -- the method of a place in the tables of classes, the first of which has the number n
-table_method : (k : Known) (n : ℕ) (os : List Class) (d m g : ℕ) →
+pub table_method : (k : Known) (n : ℕ) (os : List Class) (d m g : ℕ) →
     method_in m (slice_get (map made_class (class_tables_from k n os)) d) ≡ Some g → slice_get (methods_of k (n + d)) m ≡ Some g
 table_method k n [] d m g e = cc
 table_method k n (o ∷ os) zero m g e =
@@ -93,7 +82,7 @@ module _ (is : List ItemTree) (arrays events : ℕ → Bool) (quiet : Quiet is) 
   found = sorted is
 
   -- classes inherit as their outlines say
-  up_is : parent_of k.outline ≡ up is
+  pub up_is : parent_of k.outline ≡ up is
   up_is = fun_ext (λ c. sym (parents_are is quiet c))
 
   pub inherits_above : (c d : ℕ) → Above k.outline c d → Inherits (up is) c d
@@ -109,11 +98,11 @@ module _ (is : List ItemTree) (arrays events : ℕ → Bool) (quiet : Quiet is) 
   slot_below c p i q e h =
       let parent : parent_of k.outline c ≡ Some p = ap (λ f. f c) up_is ∙ e in
       let info = map_at field_sort (map (info_of is) (items.fields_of is p)) i q (sym (ap (λ l. at l i) (slots_are p)) ∙ h) in
-      let field = map_get (info_of is) (items.fields_of is p) i info.0 info.1 in
+      let field = mapped_get (info_of is) (items.fields_of is p) i info.0 info.1 in
       let there = (classes_inherit is quiet c p parent).fields i field.0 field.1 in
       ap (λ l. at l i) (slots_are c)
       ∙ get_map field_sort (map (info_of is) (items.fields_of is c)) i (info_of is field.0)
-      (get_map_slice (info_of is) (items.fields_of is c) i field.0 there)
+      (get_mapped (info_of is) (items.fields_of is c) i field.0 there)
       ∙ ap (λ x. Some (field_sort x)) field.2 ∙ ap (λ x. Some x) info.2
 
   pub slots_inherit : (c d i : ℕ) (q : Sort) → Inherits (up is) c d → at (found.slots d) i ≡ Some q → at (found.slots c) i ≡ Some q
@@ -135,7 +124,7 @@ module _ (is : List ItemTree) (arrays events : ℕ → Bool) (quiet : Quiet is) 
   signature_at : (n : ℕ) (f : Function) → slice_get k.functions n ≡ Some f →
       found.signature n ≡ signed f (class_in (slice_get (owned k.items) n))
   signature_at n f e =
-      ap (λ o. signature_of o (class_in (slice_get (owned k.items) n))) (get_map_slice made_function k.functions n f e)
+      ap (λ o. signature_of o (class_in (slice_get (owned k.items) n))) (get_mapped made_function k.functions n f e)
 
   made_fits : (t u : Ty) → fits k.outline t u ≡ true → Fits (up is) (made_sort (made t)) (made_sort (made u))
   made_fits t u h =
@@ -147,12 +136,12 @@ module _ (is : List ItemTree) (arrays events : ℕ → Bool) (quiet : Quiet is) 
   module _ (n h : ℕ) (f g : Function) (own : slice_get k.functions n ≡ Some f) (other : slice_get k.functions h ≡ Some g)
       (fit : can_override k.outline (Some f) (Some g) ≡ true) where
     effects_fit : has_same_effects f.effects g.effects ≡ true
-    effects_fit = and_left _ _ (and_right (all_same (tys f.params) (tys g.params)) _ fit)
+    effects_fit = and_first _ _ (and_second (all_same (tys f.params) (tys g.params)) _ fit)
 
     over_params : (found.signature n).params ≡ (found.signature h).params
     over_params =
         ap (λ (x : Signature). x.params) (signature_at n f own)
-        ∙ ap (λ us. map made_sort (map made us)) (same_types f.params g.params (and_left _ _ fit))
+        ∙ ap (λ us. map made_sort (map made us)) (same_types f.params g.params (and_first _ _ fit))
         ∙ sym (ap (λ (x : Signature). x.params) (signature_at h g other))
 
     over_result : Fits (up is) (found.signature n).result (found.signature h).result
@@ -160,26 +149,26 @@ module _ (is : List ItemTree) (arrays events : ℕ → Bool) (quiet : Quiet is) 
         subst (λ q. Fits (up is) (found.signature n).result q) (sym (ap (λ (x : Signature). x.result) (signature_at h g other)))
         (subst (λ q. Fits (up is) q (made_sort (made g.result))) (sym (ap (λ (x : Signature). x.result) (signature_at n f own)))
         (made_fits f.result g.result
-        (and_right (has_same_effects f.effects g.effects) _ (and_right (all_same (tys f.params) (tys g.params)) _ fit))))
+        (and_second (has_same_effects f.effects g.effects) _ (and_second (all_same (tys f.params) (tys g.params)) _ fit))))
 
     e_computes : f.effects.computes ≡ g.effects.computes
-    e_computes = same_mark f.effects.computes g.effects.computes (and_left _ _ effects_fit)
+    e_computes = same_mark f.effects.computes g.effects.computes (and_first _ _ effects_fit)
 
     e_rest : (is_same_mark f.effects.transacts g.effects.transacts && (is_same_mark f.effects.decides g.effects.decides &&
         is_same_mark f.effects.suspends g.effects.suspends)) ≡ true
-    e_rest = and_right (is_same_mark f.effects.computes g.effects.computes) _ effects_fit
+    e_rest = and_second (is_same_mark f.effects.computes g.effects.computes) _ effects_fit
 
     e_transacts : f.effects.transacts ≡ g.effects.transacts
-    e_transacts = same_mark f.effects.transacts g.effects.transacts (and_left _ _ e_rest)
+    e_transacts = same_mark f.effects.transacts g.effects.transacts (and_first _ _ e_rest)
 
     e_last : (is_same_mark f.effects.decides g.effects.decides && is_same_mark f.effects.suspends g.effects.suspends) ≡ true
-    e_last = and_right (is_same_mark f.effects.transacts g.effects.transacts) _ e_rest
+    e_last = and_second (is_same_mark f.effects.transacts g.effects.transacts) _ e_rest
 
     e_decides : f.effects.decides ≡ g.effects.decides
-    e_decides = same_mark f.effects.decides g.effects.decides (and_left _ _ e_last)
+    e_decides = same_mark f.effects.decides g.effects.decides (and_first _ _ e_last)
 
     e_suspends : f.effects.suspends ≡ g.effects.suspends
-    e_suspends = same_mark f.effects.suspends g.effects.suspends (and_right (is_same_mark f.effects.decides g.effects.decides) _ e_last)
+    e_suspends = same_mark f.effects.suspends g.effects.suspends (and_second (is_same_mark f.effects.decides g.effects.decides) _ e_last)
 
     e_lasts : lasts f.effects ≡ lasts g.effects
     e_lasts =
@@ -224,7 +213,7 @@ module _ (is : List ItemTree) (arrays events : ℕ → Bool) (quiet : Quiet is) 
       }
 
   -- the method at a place of a class, for that of an ancestor
-  methods_above : (c d m g : ℕ) → Inherits (up is) c d → slice_get (methods_of k d) m ≡ Some g →
+  pub methods_above : (c d m g : ℕ) → Inherits (up is) c d → slice_get (methods_of k d) m ≡ Some g →
       (n : ℕ) × (slice_get (methods_of k c) m ≡ Some n) × Over k g n
   methods_above c d m g s.itself h = (g, h, above.same)
   methods_above c d m g (s.above {d = p} e r) h =

@@ -1,7 +1,9 @@
 -- The function that a run starts with.
-use Rattle.std.proofs.Common.{◌≡◌, ℕ, zero, suc, ◌+◌, Bool, true, false, cond, not, ◌&&◌, List, [], ◌∷◌, ◌++◌, map, length, Option, refl}
+use Rattle.std.proofs.Common.{◌≡◌, ℕ, zero, suc, ◌+◌, Bool, true, false, cond, not, List, [], ◌∷◌, ◌++◌, map, length, Option, refl}
 use Rattle.std.proofs.Common.{sym, ap, ◌∙◌, subst}
 use Rattle.std.specs.Prelude.{Some, None, slice_get}
+use Rattle.std.proofs.lemmas.Bool.{not-true}
+use Rattle.verse_base.proofs.Facts.{and_first, and_second, get_mapped, guarded}
 use Rattle.verse_tree.specs.ItemTree.{FunTree, MemberTree, field, method, ItemTree, using, enumeration, class, function}
 use Rattle.verse_tree.specs.PostOrder.{items_order, program_place}
 use Rattle.verse_rules_least.specs.Least.{Holds, other}
@@ -18,19 +20,18 @@ use Rattle.verse_names_items.specs.Rules as rules
 use Rattle.verse_names_items.specs.Nodes.{one, fun_declared, item_declared, items_declared, ItemsBreak}
 use Rattle.verse_rules.specs.Made.{made}
 use Rattle.verse_meaning.specs.Programs.{main_name, main_in}
+use Rattle.verse_meaning.proofs.Names.{same_bytes}
 use Rattle.verse_sorts.specs.Sorts as s
 use Rattle.verse_sorts_types.specs.SortOf.{sort_of}
 use Rattle.verse_sound_rules.specs.Programs.{Inputs, no_inputs, has_inputs}
 use Rattle.verse_accept_scopes.specs.Lists.{Each}
 use Rattle.verse_accept_scopes.proofs.Rows.{each_first, each_rest}
 use Rattle.verse_accept_classes.specs.Owners.{Owned, methods_owned, owned}
-use Rattle.verse_accept_classes.proofs.Names.{same_bytes}
 use Rattle.verse_accept_classes.proofs.Places.{Placed, all_placed}
 use Rattle.verse_accept_classes.proofs.Functions.{functions_are}
 use Rattle.verse_accept_classes.proofs.Circles.{Kept, program_kept, holds_here}
 use Rattle.verse_accept_classes.proofs.Tables.{of_made}
 use Rattle.verse_accept_fine.specs.Sorted.{made_sort}
-use Rattle.verse_accept_fine.proofs.Names.{get_map_slice}
 
 -- ---- what Main takes
 
@@ -45,23 +46,6 @@ inputs_of (u ∷ []) h =
     let sort : made_sort (made u) ≡ s.list s.int = ap sort_of (of_made u) ∙ ap sort_of (ints_are u h) in
     subst (λ q. Inputs (q ∷ [])) (sym sort) has_inputs
 inputs_of (u ∷ (v ∷ us)) h = cc
-
-first_true : (a b : Bool) → (a && b) ≡ true → a ≡ true
-first_true true b h = refl
-first_true false b h = h
-
-second_true : (a b : Bool) → (a && b) ≡ true → b ≡ true
-second_true true b h = h
-second_true false b h = cc
-
-not_true : (b : Bool) → not b ≡ true → b ≡ false
-not_true true h = cc
-not_true false h = refl
-
-both_false : (a b : Bool) → a ≡ true → (a && not b) ≡ false → b ≡ true
-both_false true true e h = refl
-both_false true false e h = cc
-both_false false b e h = cc
 
 -- the function that Main is
 pub record Starts (all : List ItemTree) (f : FunTree) : Type 0 where
@@ -86,20 +70,20 @@ module _ (all : List ItemTree) where
       slice_get k.functions n ≡ Some (fun_function k.index.types f)
   function_at n f e =
       ap (λ fs. slice_get fs n) (functions_are k.index.types all no_counts)
-      ∙ get_map_slice (λ (o : Owned). fun_function k.index.types o.tree) os n (record { class = None; tree = f }) e
+      ∙ get_mapped (λ (o : Owned). fun_function k.index.types o.tree) os n (record { class = None; tree = f }) e
 
   starts_at : (n : ℕ) (f : FunTree) → slice_get os n ≡ Some (record { class = None; tree = f }) → is_main_name f.name ≡ true →
       misshapes_main k (rules.function n f) ≡ false → Starts all f
   starts_at n f e main h =
-      let can = both_false (is_main_name f.name) (can_start (slice_get k.functions n)) main h in
+      let can = guarded (is_main_name f.name) (can_start (slice_get k.functions n)) h main in
       let start : is_start (fun_function k.index.types f) ≡ true = subst (λ o. can_start o ≡ true) (function_at n f e) can in
       let own = fun_function k.index.types f in
       record {
         number = n;
         there = e;
-        inputs = inputs_of (map (param_type k.index.types) f.params) (first_true (takes_inputs own.params) _ start);
-        decides = not_true own.effects.decides
-            (second_true (is_void own.result) _ (second_true (takes_inputs own.params) _ start));
+        inputs = inputs_of (map (param_type k.index.types) f.params) (and_first (takes_inputs own.params) _ start);
+        decides = not-true own.effects.decides
+            (and_second (is_void own.result) _ (and_second (takes_inputs own.params) _ start));
       }
 
   abbrev HasStart : List ItemTree → Type 0

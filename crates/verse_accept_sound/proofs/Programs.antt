@@ -7,6 +7,7 @@ use Rattle.verse_accept_classes.specs.Owners.{Owned}
 use Rattle.verse_accept_classes.specs.Laws.{Quiet, FunctionsStand}
 use Rattle.verse_accept_classes.proofs.Tables.{functions_found}
 use Rattle.verse_accept_fine.specs.Sorted.{sorted, program}
+use Rattle.verse_accept_fine.proofs.Known.{sorted_known}
 use Rattle.verse_accept_trees.specs.Laws.{TreesAreFine}
 use Rattle.verse_accept_sound.specs.Programs.{ProgramsAreFine}
 use Rattle.verse_accept_sound.proofs.Bodies.{own_signature, own_params, body_fine, function_fine, defaults_fine}
@@ -15,6 +16,7 @@ use Rattle.verse_accept_sound.proofs.Main.{main_starts}
 
 pub programs_fine : TreesAreFine → ProgramsAreFine
 programs_fine trees is arrays events told shaped numbered sound named = record {
+  known = sorted_known is;
   functions = λ g f e.
       let o = functions.owner g f e in
       subst (FineFunction (program is arrays events) (sorted is) g) o.2

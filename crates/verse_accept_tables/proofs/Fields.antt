@@ -3,6 +3,7 @@ use Rattle.std.proofs.Common.{◌≡◌, ℕ, zero, suc, ◌+◌, ◌<◌, List,
 use Rattle.std.proofs.lemmas.List.{length-map, length-append}
 use Rattle.std.proofs.lemmas.Option.{slice_get_within}
 use Rattle.std.specs.Prelude.{Option, Some, None, slice_get}
+use Rattle.verse_base.proofs.Facts.{past}
 use Rattle.verse_tree.specs.ItemTree.{MemberTree, field, method, ClassTree, ItemTree}
 use Rattle.verse_tree.specs.Sizes.{class_fields}
 use Rattle.verse_rules_types.specs.Types.{Class}
@@ -14,11 +15,13 @@ use Rattle.verse_names_declarations.specs.Lines.{on_class, line, line_of}
 use Rattle.verse_names_items.specs.Tables.{own_fields, note_members, fields_of, class_tables_from, class_tables}
 use Rattle.verse_rules.specs.Naming.{made_field, made_class}
 use Rattle.verse_meaning_state.specs.Waits.{nth}
+use Rattle.verse_meaning_state.proofs.Numbers.{nth_is}
 use Rattle.verse_meaning.specs.Programs.{classes, fields_from}
 use Rattle.verse_meaning.specs.Programs as programs
 use Rattle.verse_accept_classes.proofs.Classes.{tree_of, notes_are, outline_many}
 use Rattle.verse_accept_classes.proofs.Parents.{at, parent_is, parents_within}
 use Rattle.verse_accept_classes.proofs.Lines.{ends_above, ends, NoCircle, all_end}
+use Rattle.verse_accept_classes.proofs.Fields.{no_parent}
 
 -- ---- the fields of one class
 
@@ -43,18 +46,6 @@ note_many ts (n ∷ ns) (suc d) = note_many ts ns d
 no_more : (n : ℕ) (cs : List ClassTree) → length (fields_from n cs None) ≡ 0
 no_more zero cs = refl
 no_more (suc n) cs = refl
-
-no_parent : (os : List Class) (d : ℕ) → slice_get os d ≡ None → parent_of os d ≡ None
-no_parent [] d e = refl
-no_parent (o ∷ os) zero e = cc
-no_parent (o ∷ os) (suc d) e = no_parent os d e
-
-past : {A B : Type 0} (xs : List A) (ys : List B) (d : ℕ) → length xs ≡ length ys → slice_get xs d ≡ None → slice_get ys d ≡ None
-past [] [] d e h = refl
-past [] (y ∷ ys) d e h = absurd (omega (arith, e))
-past (x ∷ xs) [] d e h = refl
-past (x ∷ xs) (y ∷ ys) zero e h = cc
-past (x ∷ xs) (y ∷ ys) (suc d) e h = past xs ys d (omega (arith, e)) h
 
 module _ (is : List ItemTree) where
   abbrev k : Known
@@ -100,11 +91,6 @@ module _ (is : List ItemTree) where
           ap (λ m. m + length (programs.own_fields c.members)) (r ∙
           ap (λ o. length (fields_from n (classes is) o)) (parent_is is d c e)) ∙
           sym (length-append (fields_from n (classes is) (programs.parent_of (classes is) c.parent)) (programs.own_fields c.members))
-
-  nth_is : {A : Type 0} (xs : List A) (n : ℕ) → nth xs n ≡ slice_get xs n
-  nth_is [] n = refl
-  nth_is (x ∷ xs) zero = refl
-  nth_is (x ∷ xs) (suc n) = nth_is xs n
 
   table_at : (c n : ℕ) (os : List Class) → n < length os →
       class_fields (slice_get (map made_class (class_tables_from k c os)) n) ≡ length (fields_of ts k.notes (line_of k.outline (c + n)))

@@ -2,7 +2,8 @@
 use Rattle.std.proofs.Common.{◌≡◌, ℕ, ◌≤◌, List, [], ◌∷◌, length, Bool, true, false, cond, refl, sym, ap, ◌∙◌, subst, arith}
 use Rattle.std.proofs.lemmas.List.{length-map}
 use Rattle.std.proofs.lemmas.Option.{slice_get-map}
-use Rattle.std.specs.Prelude.{Option, Some, slice_get, ◌&&◌, not, option_map}
+use Rattle.std.specs.Prelude.{Option, Some, slice_get, not, option_map}
+use Rattle.verse_base.proofs.Facts.{and_first, guarded}
 use Rattle.verse_tree.specs.ItemTree.{FunTree, ItemTree, using, enumeration, class, function}
 use Rattle.verse_tree.specs.PostOrder.{items_order, program_place}
 use Rattle.verse_rules_least.specs.Least.{Holds, other}
@@ -16,10 +17,10 @@ use Rattle.verse_names_items.specs.Rules.{lacks_main, rules_at}
 use Rattle.verse_names_items.specs.Rules as rules
 use Rattle.verse_names_items.specs.Nodes.{one, fun_declared, item_declared, items_declared, ItemsBreak}
 use Rattle.verse_meaning.specs.Programs.{main_name, main_in}
+use Rattle.verse_meaning.proofs.Names.{same_bytes}
 use Rattle.verse_accept_scopes.specs.Lists.{Each}
 use Rattle.verse_accept_scopes.proofs.Rows.{each_first, each_rest}
 use Rattle.lower_simulation_runs.specs.Programs.{a_function, defined_in}
-use Rattle.verse_accept_classes.proofs.Names.{same_bytes}
 use Rattle.verse_accept_tables.proofs.Functions.{as_function, functions_are}
 use Rattle.verse_accept_tables.proofs.Standing.{Last, next, whole}
 use Rattle.verse_accept_classes.proofs.Circles.{Kept, program_kept, holds_here}
@@ -30,19 +31,10 @@ few_types [] h = omega arith
 few_types (t ∷ []) h = omega arith
 few_types (t ∷ (u ∷ ts)) h = cc
 
-first_true : (a b : Bool) → (a && b) ≡ true → a ≡ true
-first_true true b h = refl
-first_true false b h = h
-
 started : (o : Option Function) (f : Function) → can_start o ≡ true → o ≡ Some f → length f.params ≤ 1
 started o f h e =
     let s : is_start f ≡ true = subst (λ o. can_start o ≡ true) e h in
-    few_types f.params (first_true (takes_inputs f.params) _ s)
-
-both_false : (a b : Bool) → a ≡ true → (a && not b) ≡ false → b ≡ true
-both_false true true e h = refl
-both_false true false e h = cc
-both_false false b e h = cc
+    few_types f.params (and_first (takes_inputs f.params) _ s)
 
 module _ (all : List ItemTree) where
   abbrev k : Known
@@ -61,7 +53,7 @@ module _ (all : List ItemTree) where
   takes_few : (n : ℕ) (f : FunTree) → slice_get (defined_in all) n ≡ Some (a_function f) → is_main_name f.name ≡ true →
       misshapes_main k (rules.function n f) ≡ false → length f.params ≤ 1
   takes_few n f e main h =
-      let start = both_false (is_main_name f.name) (can_start (slice_get k.functions n)) main h in
+      let start = guarded (is_main_name f.name) (can_start (slice_get k.functions n)) h main in
       let few = started (slice_get k.functions n) (fun_function k.index.types f) start (function_at n f e) in
       subst (λ n. n ≤ 1) (length-map f.params (param_type k.index.types)) few
 

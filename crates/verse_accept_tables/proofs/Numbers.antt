@@ -1,46 +1,18 @@
 -- The numbers of the nodes of functions, methods and fields rise, and those of functions and methods are in the table.
-use Rattle.std.proofs.Common.{ℕ, suc, ◌+◌, ◌<◌, ◌≤◌, List, [], ◌∷◌, ◌++◌, map, Option, Some, None, sym, subst, arith}
-use Rattle.std.proofs.lemmas.List.{map-append}
+use Rattle.std.proofs.Common.{ℕ, suc, ◌+◌, ◌<◌, ◌≤◌, List, [], ◌∷◌, map, Option, Some, None, sym, subst, arith}
 use Rattle.verse_tree.specs.Tree.{Tree}
 use Rattle.verse_tree.specs.ItemTree.{FieldTree, MemberTree, field, method, ItemTree, using, enumeration, class, function}
-use Rattle.verse_tree.specs.Numbering.{list_nodes, list_numbered, field_nodes, field_numbered}
-use Rattle.verse_tree.specs.Numbering.{fun_nodes, fun_numbered, member_nodes, member_numbered, class_nodes}
+use Rattle.verse_tree.specs.Numbering.{list_nodes, field_nodes, field_numbered}
+use Rattle.verse_tree.specs.Numbering.{fun_nodes, fun_numbered, member_nodes, class_nodes}
 use Rattle.verse_tree.specs.Numbering.{items_nodes, items_numbered}
 use Rattle.verse_names_items.specs.Nodes.{IsNumbered}
 use Rattle.verse_meaning.specs.Programs.{own_fields}
 use Rattle.lower_code.specs.Defaults.{with_default, with_defaults, defaults_in}
-use Rattle.lower_simulation_runs.specs.Programs.{methods_defined, defined_in, number_in, Absent, Distinct, field_number}
-
--- numbers that rise, from the first one on and below the last one
-abbrev pub Rise : ℕ → List ℕ → ℕ → Type 0
-Rise n [] m = n ≤ m
-Rise n (x ∷ xs) m = (n ≤ x) × Rise (suc x) xs m
-
-lower : (k n m : ℕ) (xs : List ℕ) → k ≤ n → Rise n xs m → Rise k xs m
-lower k n m [] h r = omega (arith, h, r)
-lower k n m (x ∷ xs) h r = (omega (arith, h, r.0), r.1)
-
-both : (n k m : ℕ) (xs ys : List ℕ) → Rise n xs k → Rise k ys m → Rise n (xs ++ ys) m
-both n k m [] ys h r = lower n k m ys h r
-both n k m (x ∷ xs) ys h r = (h.0, both (suc x) k m xs ys h.1 r)
-
-absent : (x n m : ℕ) (xs : List ℕ) → x < n → Rise n xs m → Absent x xs
-absent x n m [] h r = tt
-absent x n m (y ∷ ys) h r = ((λ e. omega (arith, h, r.0, e)), absent x (suc y) m ys (omega (arith, h, r.0)) r.1)
-
-pub distinct : (n m : ℕ) (xs : List ℕ) → Rise n xs m → Distinct xs
-distinct n m [] r = tt
-distinct n m (x ∷ xs) r = (absent x (suc x) m xs (omega arith) r.1, distinct (suc x) m xs r.1)
-
-joined : {A : Type 0} (f : A → ℕ) (n k m : ℕ) (xs ys : List A) → Rise n (map f xs) k → Rise k (map f ys) m → Rise n (map f (xs ++ ys)) m
-joined f n k m xs ys h r = subst (λ l. Rise n l m) (sym (map-append f xs ys)) (both n k m (map f xs) (map f ys) h r)
+use Rattle.lower_simulation_runs.specs.Programs.{methods_defined, defined_in, number_in, Distinct, field_number}
+use Rattle.verse_accept_classes.proofs.Functions.{Rise, lower, distinct, joined, members_from}
 
 one : (n x m k : ℕ) → n ≤ x → x < m → m ≤ k → Rise n (x ∷ []) k
 one n x m k h l g = (h, omega (arith, l, g))
-
--- members numbered from n on
-abbrev members_from : List MemberTree → ℕ → List MemberTree
-members_from ms n = list_numbered member_numbered member_nodes ms n
 
 -- ---- functions and methods
 

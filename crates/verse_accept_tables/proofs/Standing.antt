@@ -15,6 +15,7 @@ use Rattle.verse_meaning.specs.Programs.{classes}
 use Rattle.lower_bounds.proofs.Lists.{Each}
 use Rattle.lower_simulation_runs.specs.Programs.{Defined, a_function, methods_defined, defined_in}
 use Rattle.verse_accept_classes.proofs.Places.{Placed, all_placed}
+use Rattle.verse_accept_classes.proofs.Parents.{all_named, classes_named}
 
 -- ---- tables of names
 
@@ -57,11 +58,6 @@ module _ (P : Ref → Type 0) where
   named_stands None t p h = h
   named_stands (Some e) t p h = keep_stands e.0 e.1 t p h
 
--- what the items of a list are called, in turn
-abbrev pub all_named : (ItemTree → Counts → Option (Bytes × Ref)) → List Counted → Table → Table
-all_named as1 [] t = t
-all_named as1 (i ∷ is) t = all_named as1 is (keep_named (as1 i.item i.before) t)
-
 pub items_named : (is : List Counted) (x : Index) → (index_all is x).items ≡ all_named named_as is x.items
 items_named [] x = refl
 items_named (i ∷ is) x = items_named is (indexed i x)
@@ -69,10 +65,6 @@ items_named (i ∷ is) x = items_named is (indexed i x)
 pub types_named : (is : List Counted) (x : Index) → (index_all is x).types ≡ all_named named_type_as is x.types
 types_named [] x = refl
 types_named (i ∷ is) x = types_named is (indexed i x)
-
-pub classes_named : (is : List Counted) (x : Index) → (index_all is x).classes ≡ all_named named_class_as is x.classes
-classes_named [] x = refl
-classes_named (i ∷ is) x = classes_named is (indexed i x)
 
 -- ---- items
 

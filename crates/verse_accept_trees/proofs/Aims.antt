@@ -2,7 +2,9 @@
 use Rattle.std.proofs.Common.{◌≡◌, ◌≢◌, ℕ, Bool, true, false, not, nat_eq, List, [], ◌∷◌, ◌++◌, Option}
 use Rattle.std.proofs.Common.{refl, sym, subst, ap, ◌∙◌}
 use Rattle.std.specs.Prelude.{Some, None, slice_get}
+use Rattle.std.proofs.lemmas.Bool.{not-false}
 use Rattle.verse_base.specs.declared.places.Place.{Place}
+use Rattle.verse_base.proofs.Facts.{and_first}
 use Rattle.verse_tree.specs.Tree.{Bytes, Tree, tree, Shape, Trees}
 use Rattle.verse_tree.specs.Tree as t
 use Rattle.verse_tree.specs.ItemTree.{ItemTree}
@@ -39,7 +41,7 @@ use Rattle.verse_sound_rules.specs.Found.{Allowed}
 use Rattle.verse_sound_rules.specs.Found as rules
 use Rattle.verse_sound_rules.specs.Forms.{Placed}
 use Rattle.verse_sound_rules.specs.Forms as takes
-use Rattle.verse_sound_rules.specs.Fine.{target_sorts}
+use Rattle.verse_sound_rules.specs.Fine.{target_sorts, Reaches, Settled}
 use Rattle.verse_accept_scopes.specs.Holding.{OnPart}
 use Rattle.verse_accept_rows.specs.Found.{final, Found}
 use Rattle.verse_accept_classes.specs.Referring.{Names}
@@ -47,17 +49,17 @@ use Rattle.verse_accept_classes.specs.Laws.{Quiet}
 use Rattle.verse_accept_classes.proofs.Tables.{fields_agree_all, field_names_agree}
 use Rattle.verse_accept_fine.specs.Needs.{NoEnum}
 use Rattle.verse_accept_fine.specs.Sorted.{At, ty_at, all_classes, up, sorted, program, Allows}
-use Rattle.verse_accept_fine.proofs.Rules.{not_not, and_left}
 use Rattle.verse_accept_fine.proofs.Base.{its_row, same_known}
 use Rattle.verse_accept_fine.proofs.Base as base
-use Rattle.verse_accept_fine.proofs.Operators.{int_fits, key_sort}
+use Rattle.verse_accept_fine.proofs.Operators.{part_sort, int_fits, key_sort}
 use Rattle.verse_accept_fine.proofs.Names.{slot_of}
 use Rattle.verse_accept_fine.proofs.Members.{field_within, type_only}
 use Rattle.verse_accept_forms.proofs.Operands.{sorts_of}
+use Rattle.verse_accept_forms.proofs.Indices.{same_never, reaches}
 use Rattle.verse_accept_forms.proofs.CalleeKinds.{IsValue, value_by, other_value, enum_type}
 use Rattle.verse_accept_trees.specs.Targets.{HasObject}
 use Rattle.verse_accept_trees.proofs.Paths.{joined, ended, all_joined, path_then, nowhere}
-use Rattle.verse_accept_trees.proofs.Settable.{untrue, same_never, not_enum, Varies, by_local, by_field, varies, FieldOf, field_of}
+use Rattle.verse_accept_trees.proofs.Settable.{untrue, not_enum, Varies, by_local, by_field, varies, FieldOf, field_of}
 use Rattle.verse_accept_trees.proofs.Settable.{one_tree, Indexing, of_nothing, of_array, of_map, indexing}
 
 module _ (is : List ItemTree) (arrays events : ℕ → Bool) where
@@ -79,24 +81,28 @@ module _ (is : List ItemTree) (arrays events : ℕ → Bool) where
     taken : List Sort
     fit : AllFit (up is) (sorts ts) taken
     path : Path (sort_of u) taken (sort_of v)
+    reached : Reaches whole found (sort_of u) (sorts ts) (sort_of v)
 
   steps : {u : Ty} {ts : Trees} (v : Ty) → Indexing u ts → can_index F u ts ≡ true → has_keys u ≡ true → v ≡ element_of u (count ts) →
-      Steps u ts v
-  steps v (of_nothing {ts = ts}) i k r = record {
+      Reaches whole found (sort_of u) (sorts ts) (sort_of v) → Steps u ts v
+  steps v (of_nothing {ts = ts}) i k r z = record {
     taken = sorts ts;
     fit = all_itself (up is) (sorts ts);
     path = subst (λ z. Path s.never (sorts ts) (sort_of z)) (sym (r ∙ same_never (nat_eq (count ts) 1))) (nowhere (sorts ts));
+    reached = z;
   }
-  steps v (of_array {u = u} (one_tree {m = m} {q = q} {x = x})) i k r = record {
+  steps v (of_array {u = u} (one_tree {m = m} {q = q} {x = x})) i k r z = record {
     taken = s.int ∷ [];
     fit = fit_so (int_fits is arrays events (type_of F (tree m q x)) i) fit_no;
     path = subst (λ z. Path (s.list (sort_of u)) (s.int ∷ []) (sort_of z)) (sym r) (path_so (sort_of u) in_list path_no);
+    reached = z;
   }
-  steps v (of_map {l = l} {u = u} (one_tree {m = m} {q = q} {x = x})) i k r = record {
+  steps v (of_map {l = l} {u = u} (one_tree {m = m} {q = q} {x = x})) i k r z = record {
     taken = sort_of l ∷ [];
     fit = fit_so (fitting.fits_sort (all_classes is) (type_of F (tree m q x)) l i) fit_no;
     path = subst (λ z. Path (s.map (sort_of l) (sort_of u)) (sort_of l ∷ []) (sort_of z)) (sym r)
-        (path_so (sort_of u) (in_map (key_sort is arrays events l (and_left (is_key l) (has_keys u) k))) path_no);
+        (path_so (sort_of u) (in_map (key_sort is arrays events l (and_first (is_key l) (has_keys u) k))) path_no);
+    reached = z;
   }
 
   module _ (b : Allowed) (xs : Table) where
@@ -107,6 +113,7 @@ module _ (is : List ItemTree) (arrays events : ℕ → Bool) where
       pub slot : Sort
       pub placed : Placed whole found b xs (base_of whole e) objects slot
       pub path : Path slot indices (sort_of (type_of F e))
+      pub settled : (ends_in_index (completed is) e ≡ true → b.fails ≡ true) → Settled whole found b xs e
       pub operands : AllFit (up is) (target_sorts whole found e) (objects ++ indices)
       pub value : IsValue is arrays events e
       pub keys : has_keys (type_of F e) ≡ true
@@ -117,14 +124,16 @@ module _ (is : List ItemTree) (arrays events : ℕ → Bool) where
     -- a place that no index leads to
     at_once : (m : ℕ) (q : Place) (x : Shape) (qs : List Sort) (u : Ty) →
         Placed whole found b xs (base_of whole (tree m q x)) qs (sort_of u) → ty_at is m ≡ u →
+        (Placed whole found b xs (base_of whole (tree m q x)) qs (sort_of (ty_at is m)) → Settled whole found b xs (tree m q x)) →
         AllFit (up is) (target_sorts whole found (tree m q x)) qs → IsValue is arrays events (tree m q x) → has_keys (ty_at is m) ≡ true →
         is_item F (tree m q x) ≡ false → HasObject is (tree m q x) → Aim (tree m q x)
-    at_once m q x qs u place r fit v keys item has = record {
+    at_once m q x qs u place r settles fit v keys item has = record {
       objects = qs;
       indices = [];
       slot = sort_of u;
       placed = place;
       path = subst (λ z. Path (sort_of u) [] (sort_of z)) (sym r) path_no;
+      settled = λ fails. settles (subst (λ z. Placed whole found b xs (base_of whole (tree m q x)) qs (sort_of z)) (sym r) place);
       operands = subst (AllFit (up is) (target_sorts whole found (tree m q x))) (sym (ended qs)) fit;
       value = v;
       keys = keys;
@@ -142,6 +151,12 @@ module _ (is : List ItemTree) (arrays events : ℕ → Bool) where
       slot = first.slot;
       placed = first.placed;
       path = path_then first.path more.path;
+      settled = λ fails.
+          let k = fails (ap (λ z. not (effects.is_function z)) first.value.effects) in (
+            first.settled (λ e. k),
+            subst (λ z. Reaches whole found z (sorts ts) (sort_of (ty_at is m))) (sym (part_sort is arrays events f)) more.reached,
+            k,
+          );
       operands = subst (AllFit (up is) (target_sorts whole found f ++ sorts ts)) (joined first.objects first.indices more.taken)
           (all_joined first.operands more.fit);
       value = value;
@@ -153,7 +168,7 @@ module _ (is : List ItemTree) (arrays events : ℕ → Bool) where
 
     module _ (w : World) where
       keyed : (d : Around) (m : ℕ) (q : Place) (x : Shape) → At is w d xs m q x → has_keys (ty_at is m) ≡ true
-      keyed d m q x h = ap has_keys (its_row is w d xs m q x h) ∙ not_not _ (base.types is w d xs m q x h).keyed
+      keyed d m q x h = ap has_keys (its_row is w d xs m q x h) ∙ not-false _ (base.types is w d xs m q x h).keyed
 
       -- ---- an index
 
@@ -161,12 +176,14 @@ module _ (is : List ItemTree) (arrays events : ℕ → Bool) where
           IsValue is arrays events f → has_keys (type_of F f) ≡ true → Steps (type_of F f) ts (ty_at is m)
       more_steps d m q f ts h g k =
           let fit : can_index F (type_of F f) ts ≡ true =
-          ap (λ z. indices_fit F z ts) (sym g.callee) ∙ not_not _ (base.types is w d xs m q (t.Shape.index f ts) h).matched in
+          ap (λ z. indices_fit F z ts) (sym g.callee) ∙ not-false _ (base.types is w d xs m q (t.Shape.index f ts) h).matched in
           let number : are_wanted (takes_one_index (type_of F f)) (count ts) ≡ true =
           ap (λ z. are_wanted (index_wanted z) (count ts)) (sym g.callee) ∙
-          not_not _ (base.types is w d xs m q (t.Shape.index f ts) h).counted in
-          steps (ty_at is m) (indexing F (type_of F f) ts fit number) fit k
-          (its_row is w d xs m q (t.Shape.index f ts) h ∙ ap (λ z. index_type z ts) g.callee)
+          not-false _ (base.types is w d xs m q (t.Shape.index f ts) h).counted in
+          let row : ty_at is m ≡ element_of (type_of F f) (count ts) =
+          its_row is w d xs m q (t.Shape.index f ts) h ∙ ap (λ z. index_type z ts) g.callee in
+          steps (ty_at is m) (indexing F (type_of F f) ts fit number) fit k row
+          (reaches is arrays events (type_of F f) ts (ty_at is m) fit number k row)
 
       aim_index : (d : Around) (m : ℕ) (q : Place) (f : Tree) (ts : Trees) → At is w d xs m q (t.Shape.index f ts) → Aim f →
           Aim (tree m q (t.Shape.index f ts))
@@ -189,7 +206,7 @@ module _ (is : List ItemTree) (arrays events : ℕ → Bool) where
               at_once m q (t.Shape.name x) [] (ty_at is k)
               (subst (λ o. Placed whole found b xs (base_named whole o x) [] (sort_of (ty_at is k)))
               (sym (same_known (slice_get F.refs m) ∙ found_ref ∙ f)) (takes.in_local (names.locals xs x k f) v))
-              (its_row is w d xs m q (t.Shape.name x) h ∙ ap (name_type F) (sym h.ref ∙ found_ref ∙ f)) fit_no
+              (its_row is w d xs m q (t.Shape.name x) h ∙ ap (name_type F) (sym h.ref ∙ found_ref ∙ f)) (λ z. z) fit_no
               (value_by is arrays events m q (t.Shape.name x) (Some (ref.Local k)) (found_ref ∙ f) refl refl)
               (keyed d m q (t.Shape.name x) h) (ap (λ o. not (has_value o)) (found_ref ∙ f)) tt
 
@@ -200,7 +217,7 @@ module _ (is : List ItemTree) (arrays events : ℕ → Bool) where
               (subst (λ o. Placed whole found b xs (base_named whole o x) [] (sort_of (field_type F c i)))
               (sym (same_known (slice_get F.refs m) ∙ found_ref ∙ f))
               (takes.in_own c (allows.this ∙ there.0) (slot_of is arrays events fields_agree_all quiet c i there.1)))
-              (its_row is w d xs m q (t.Shape.name x) h ∙ ap (name_type F) (sym h.ref ∙ found_ref ∙ f)) fit_no
+              (its_row is w d xs m q (t.Shape.name x) h ∙ ap (name_type F) (sym h.ref ∙ found_ref ∙ f)) (λ z. z) fit_no
               (value_by is arrays events m q (t.Shape.name x) (Some (ref.Field c i)) (found_ref ∙ f) refl refl)
               (keyed d m q (t.Shape.name x) h) (ap (λ o. not (has_value o)) (found_ref ∙ f)) tt
 
@@ -249,7 +266,9 @@ module _ (is : List ItemTree) (arrays events : ℕ → Bool) where
 
           aim_field : Aim member
           aim_field =
-              at_once m q (t.Shape.member (tree k o y) x) (s.obj c ∷ []) (field_type F c i) field_placed field_row object_fits
+              at_once m q (t.Shape.member (tree k o y) x) (s.obj c ∷ []) (field_type F c i) field_placed field_row
+              (λ z. subst (λ u. Placed whole found b xs (base_of whole member) (sort_of u ∷ []) (sort_of (ty_at is m))) (sym f) z)
+              object_fits
               (value_by is arrays events m q (t.Shape.member (tree k o y) x) (Some (ref.Field c i)) (h.ref ∙ leads) refl refl)
               (keyed d m q (t.Shape.member (tree k o y) x) h) refl plain
 

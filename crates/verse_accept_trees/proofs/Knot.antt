@@ -1,13 +1,15 @@
 -- Each tree of a program that breaks no rule is fine: by recursion on it, with a law for each form.
-use Rattle.std.proofs.Common.{◌≡◌, ℕ, ◌+◌, Bool, true, false, not, ◌&&◌, List, [], ◌∷◌, Option, refl, sym, ap, ◌∙◌, subst}
+use Rattle.std.proofs.Common.{◌≡◌, ℕ, ◌+◌, Bool, true, false, List, [], ◌∷◌, Option, refl, sym, ap, ◌∙◌, subst}
 use Rattle.std.specs.Prelude.{Some, None, slice_get}
+use Rattle.std.proofs.lemmas.Bool.{not-false}
 use Rattle.verse_base.specs.declared.places.Place.{Place}
+use Rattle.verse_base.proofs.Facts.{and_first, and_second, clash}
 use Rattle.verse_tree.specs.Tree.{Bytes, Written, Tree, tree, Shape, Trees, no_trees, more_trees, Holes, no_holes, more_holes, Givens}
 use Rattle.verse_tree.specs.Tree.{no_givens, more_givens}
 use Rattle.verse_tree.specs.Tree as t
 use Rattle.verse_tree.specs.ItemTree.{ItemTree}
 use Rattle.verse_tree.specs.PostOrder.{expression}
-use Rattle.verse_tree.specs.Shapes.{Stand, as_block, as_part, as_statement, as_body, as_expression, as_clause, as_arm}
+use Rattle.verse_tree.specs.Shapes.{Stand, as_block, as_statement, as_body, as_expression, as_clause, as_arm}
 use Rattle.verse_tree.specs.Shapes.{Shaped, PartsShaped, AllShaped, SomeShaped, AllHoles, PairsShaped, GivensShaped}
 use Rattle.verse_tree.specs.declared.exprs.Operator.TheVariants as op
 use Rattle.verse_tree.specs.declared.tables.Ref.{Ref}
@@ -33,7 +35,7 @@ use Rattle.verse_sorts.specs.Sorts.{Sort}
 use Rattle.verse_sorts_types.specs.SortOf.{sort_of}
 use Rattle.verse_sound_rules.specs.Found.{Allowed}
 use Rattle.verse_sound_rules.specs.Found as allowed
-use Rattle.verse_sound_rules.specs.Fine.{seen_behind, on_callee, on_member, sort_at, sorts_at, object_sort, ArmFits, IsEnumValue}
+use Rattle.verse_sound_rules.specs.Fine.{on_callee, on_member, sort_at, sorts_at, object_sort, Reaches, ArmFits, IsEnumValue}
 use Rattle.verse_sound_rules.specs.Fine.{is_enum_value, Fine, FineShape, FineAll, FineClauses, FineObject, FineObjectOf, FineTrees}
 use Rattle.verse_sound_rules.specs.Fine.{FineHoles, FinePairs}
 use Rattle.verse_sound_rules.specs.Fine.{FineGivens, FineEach, FineArms, FineMoreArms, FineArm, FineQuotient, FineTarget, FineSpawned}
@@ -45,7 +47,6 @@ use Rattle.verse_accept_classes.specs.Laws.{Quiet, FunctionsStand}
 use Rattle.verse_accept_fine.specs.Needs.{NoEnum, EachFits, ArmsFit, Values, Control, Naming}
 use Rattle.verse_accept_fine.specs.Needs as needs
 use Rattle.verse_accept_fine.specs.Sorted.{At, ty_at, sorted, program, Allows, is_event_type, is_array_type}
-use Rattle.verse_accept_fine.proofs.Rules.{not_not, and_left, and_right}
 use Rattle.verse_accept_fine.proofs.Base.{types, same_known}
 use Rattle.verse_accept_forms.specs.Plain.{Plain}
 use Rattle.verse_accept_forms.specs.Callees.{Callees, HasValue, HasObject, Rounds, Starts}
@@ -53,7 +54,7 @@ use Rattle.verse_accept_trees.specs.Targets.{Targets}
 use Rattle.verse_accept_trees.specs.Targets as targets
 use Rattle.verse_accept_trees.specs.Names.{Named}
 use Rattle.verse_accept_trees.specs.Needs.{Needs}
-use Rattle.verse_accept_trees.proofs.Nodes.{no, apart_from, IsForm, TakesForms, form_stands, stand_in, may_defer, no_generator}
+use Rattle.verse_accept_trees.proofs.Nodes.{no, IsForm, TakesForms, form_stands, stand_in, may_defer, no_generator}
 use Rattle.verse_accept_trees.proofs.Nodes.{statement_stands, clause_stands, clauses_all, some_all, two_all, holes_all, behind_is}
 use Rattle.verse_accept_trees.proofs.Nodes.{all_behind_is}
 use Rattle.verse_accept_trees.proofs.Rounding.{NoQuotient, callee_rounds, target_rounds, indexed_rounds, indexed_starts, indexed_path}
@@ -158,7 +159,7 @@ module _ (is : List ItemTree) (arrays events : ℕ → Bool) (quiet : Quiet is) 
   used_valued a b c u xs n p (t.Shape.call e ts) i h = u.spawned
   used_valued a b c u xs n p (t.Shape.index e ts) i h = (u.spawned, u.path)
   used_valued a b c u xs n p (t.Shape.chained op.Div e f) i h =
-      apart_from (is_rounded (final is) a.used) ((plain_at c xs n p).quotient e f h).0 u.rounded
+      clash (is_rounded (final is) a.used) ((plain_at c xs n p).quotient e f h).0 u.rounded
   used_valued a b c u xs n p (t.Shape.chained op.Or e f) i h = tt
   used_valued a b c u xs n p (t.Shape.chained op.And e f) i h = tt
   used_valued a b c u xs n p (t.Shape.chained op.Add e f) i h = tt
@@ -237,7 +238,7 @@ module _ (is : List ItemTree) (arrays events : ℕ → Bool) (quiet : Quiet is) 
   callee_valued d a b l q c r u v xs n p (t.Shape.call m ts) g y z o e h = u
   callee_valued d a b l q c r u v xs n p (t.Shape.index m ts) g y z o e h = (u, v)
   callee_valued d a b l q c r u v xs n p (t.Shape.chained op.Div m f) g y z o e h =
-      apart_from (is_rounded (final is) a.used) ((plain_at c xs n p).quotient m f h).0 r
+      clash (is_rounded (final is) a.used) ((plain_at c xs n p).quotient m f h).0 r
   callee_valued d a b l q c r u v xs n p (t.Shape.chained op.Or m f) g y z o e h = tt
   callee_valued d a b l q c r u v xs n p (t.Shape.chained op.And m f) g y z o e h = tt
   callee_valued d a b l q c r u v xs n p (t.Shape.chained op.Add m f) g y z o e h = tt
@@ -266,14 +267,14 @@ module _ (is : List ItemTree) (arrays events : ℕ → Bool) (quiet : Quiet is) 
   index_round a xs n e y p k g h d f = callee_rounds is arrays events w (around.indexed a) xs n e y p k h (form_at e g) d f
 
   takes_first : (e : Tree) (ts : Trees) → all_take (final is) (more_trees e ts) ≡ true → takes (final is) e ≡ true
-  takes_first e ts h = and_left (takes (final is) e) (all_take (final is) ts) h
+  takes_first e ts h = and_first (takes (final is) e) (all_take (final is) ts) h
 
   takes_rest : (e : Tree) (ts : Trees) → all_take (final is) (more_trees e ts) ≡ true → all_take (final is) ts ≡ true
-  takes_rest e ts h = and_right (takes (final is) e) (all_take (final is) ts) h
+  takes_rest e ts h = and_second (takes (final is) e) (all_take (final is) ts) h
 
   takes_of : (a : Around) (xs : Table) (n : ℕ) (p : Place) (ts : Trees) (e : Tree) → At is w a xs n p (t.Shape.for_form ts e) →
       all_take (final is) ts ≡ true
-  takes_of a xs n p ts e h = not_not _ (types is w a xs n p (t.Shape.for_form ts e) h).matched
+  takes_of a xs n p ts e h = not-false _ (types is w a xs n p (t.Shape.for_form ts e) h).matched
 
   -- ---- what the checker finds is fine, form by form
 
@@ -339,15 +340,17 @@ module _ (is : List ItemTree) (arrays events : ℕ → Bool) (quiet : Quiet is) 
         on_callee f (λ x. GiveAt a b xs n p x operands)
         (λ x. HasObject is (tree m q s) × GiveAt a b xs n p x with_object)
         (λ x. HasValue is arrays events w a xs b n p (tree m q s) ×
+        Reaches whole found (needs.part is arrays events (tree m q s)) operands (needs.own is arrays events w a xs b n p) ×
         GiveAt a b xs n p x (needs.part is arrays events (tree m q s) ∷ operands)) (λ x. ⊥) →
         on_callee f (λ x. FineTrees whole found b xs ts × GiveAt a b xs n p x operands)
         (λ x. FineObject whole found b xs (tree m q s) × FineTrees whole found b xs ts × GiveAt a b xs n p x with_object)
-        (λ x. Fine whole found b xs (tree m q s) × FineTrees whole found b xs ts × GiveAt a b xs n p x (sort_at whole found (tree m q s) ∷
-        operands))
+        (λ x. (Fine whole found b xs (tree m q s) ×
+        Reaches whole found (sort_at whole found (tree m q s)) operands (needs.own is arrays events w a xs b n p)) ×
+        FineTrees whole found b xs ts × GiveAt a b xs n p x (sort_at whole found (tree m q s) ∷ operands))
         (λ x. FineQuotient whole found b xs n x ts)
     index_made (alone f) args whose val r = (args tt, r)
     index_made (of_object f) args whose val r = (whose r.0, args tt, r.1)
-    index_made (of_value f) args whose val r = (val f refl r.0, args tt, r.1)
+    index_made (of_value f) args whose val r = ((val f refl r.0, r.1), args tt, r.2)
     index_made (of_quotient f) args whose val r = absurd r
     index_made no_callee args whose val r = r
 
@@ -386,8 +389,12 @@ module _ (is : List ItemTree) (arrays events : ℕ → Bool) (quiet : Quiet is) 
       (plain_at c xs n p).variable x u (tree m q s) o h.1.2.serves,
     )
     shape_fine a b c xs n p (t.Shape.assignment m e (tree j q s)) g i v h k o l = (
-      target_fine (used_as target a) b (used c target) xs n e g.0 ((targets_at c xs n p).settable m e (tree j q s) o)
-          ((targets_at c xs n p).object m e (tree j q s) o h.0) h.0 k.0,
+      (
+        target_fine (used_as target a) b (used c target) xs n e g.0 ((targets_at c xs n p).settable m e (tree j q s) o)
+            ((targets_at c xs n p).object m e (tree j q s) o h.0) h.0 k.0,
+        (targets_at c xs n p).settled m e (tree j q s) o h.0,
+        (targets_at c xs n p).stored m e (tree j q s) o h.0,
+      ),
       part_fine as_expression tt (around.freely a) b (freely c) refl serves_free xs n (tree j q s) g.1 h.1 k.1,
       (targets_at c xs n p).assignment m e (tree j q s) o h.0,
     )
@@ -439,19 +446,22 @@ module _ (is : List ItemTree) (arrays events : ℕ → Bool) (quiet : Quiet is) 
           f.0,
           f.1,
         )
-    shape_fine a b c xs n p (t.Shape.for_form ts (tree m q s)) g i v h k o l = (
-      clauses_fine (around.caught a) (allowed.tried b) (caught c) refl xs n ts (clauses_all ts g.0) (takes_of a xs n p ts (tree m q s) o)
-          h.0 k.0,
-      subst (λ ys. Fine whole found b ys (tree m q s)) (all_behind_is is w n (around.caught a) xs ts h.0)
-          (part_fine as_block tt (around.repeated a) b (repeated c) refl serves_free (all_behind w ts xs) n (tree m q s) g.1 h.1 k.1),
-      (plain_at c xs n p).for_form ts (tree m q s) o,
-    )
+    shape_fine a b c xs n p (t.Shape.for_form ts (tree m q s)) g i v h k o l =
+        let f = (plain_at c xs n p).for_form ts (tree m q s) o in (
+          clauses_fine (around.caught a) (allowed.tried b) (caught c) refl xs n ts (clauses_all ts g.0)
+              (takes_of a xs n p ts (tree m q s) o) h.0 k.0,
+          subst (λ ys. Fine whole found b ys (tree m q s)) (all_behind_is is w n (around.caught a) xs ts h.0)
+              (part_fine as_block tt (around.repeated a) b (repeated c) refl serves_free (all_behind w ts xs) n (tree m q s) g.1 h.1 k.1),
+          f.0,
+          f.1,
+          f.2,
+        )
     -- operators
     shape_fine a b c xs n p (t.Shape.chained op.Div e f) g i v h k o l = absurd v
     shape_fine a b c xs n p (t.Shape.chained op.And (tree m q s) (tree j r z)) g i v h k o l = (
       part_fine as_expression tt (around.freely a) b (freely c) refl serves_free xs n (tree m q s) g.0 h.0 k.0,
       part_fine as_expression tt (around.freely a) b (freely c) refl serves_free xs n (tree j r z) g.1 h.1 k.1,
-      (values_at c xs n p).both (arrays n) (tree m q s) (tree j r z) o,
+      (values_at c xs n p).both (tree m q s) (tree j r z) o,
     )
     shape_fine a b c xs n p (t.Shape.chained op.Add (tree m q s) (tree j r z)) g i v h k o l = (
       part_fine as_expression tt (around.freely a) b (freely c) refl serves_free xs n (tree m q s) g.0 h.0 k.0,
@@ -520,7 +530,8 @@ module _ (is : List ItemTree) (arrays events : ℕ → Bool) (quiet : Quiet is) 
     )
     shape_fine a b c xs n p (t.Shape.array ts) g i v h k o l =
         (trees_fine as_expression tt (around.freely a) b (freely c) refl xs n ts g h k, (values_at c xs n p).array ts o)
-    shape_fine a b c xs n p (t.Shape.mapping ps) g i v h k o l = (pairs_fine a b c xs n ps g h k, (values_at c xs n p).mapping ps o)
+    shape_fine a b c xs n p (t.Shape.mapping ps) g i v h k o l =
+        let f = values_at c xs n p in ((pairs_fine a b c xs n ps g h k, f.is_map ps o), f.mapping ps o)
     shape_fine a b c xs n p (t.Shape.instance x gs) g i v h k o l =
         let f = (naming_at c xs n p).instance x gs o in (f.0, f.1, givens_fine a b c xs n gs g h k, f.2)
     shape_fine a b c xs n p (t.Shape.event u) g i v h k o l = (plain_at c xs n p).event u o
@@ -552,20 +563,20 @@ module _ (is : List ItemTree) (arrays events : ℕ → Bool) (quiet : Quiet is) 
         )
     shape_fine a b c xs n p (t.Shape.sync ts) g i v h k o l =
         let f = control_at c xs n p in (
-          f.waits (t.Shape.sync ts) o refl,
+          (f.waits (t.Shape.sync ts) o refl, f.several (t.Shape.sync ts) ts o refl),
           trees_fine as_statement tt (around.armed a) (allowed.armed b) (armed c (f.untried (t.Shape.sync ts) o refl)) refl xs n ts g h k,
           f.sync ts o,
         )
     shape_fine a b c xs n p (t.Shape.race ts) g i v h k o l =
         let f = control_at c xs n p in (
-          f.waits (t.Shape.race ts) o refl,
+          (f.waits (t.Shape.race ts) o refl, f.several (t.Shape.race ts) ts o refl),
           each_fine (around.armed a) (allowed.armed b) (armed c (f.untried (t.Shape.race ts) o refl)) refl xs n ts g
               (needs.own is arrays events w a
               xs b n p) (f.race ts o) h k,
         )
     shape_fine a b c xs n p (t.Shape.rush ts) g i v h k o l =
         let f = control_at c xs n p in (
-          f.waits (t.Shape.rush ts) o refl,
+          (f.waits (t.Shape.rush ts) o refl, f.several (t.Shape.rush ts) ts o refl),
           each_fine (around.armed a) (allowed.armed b) (armed c (f.untried (t.Shape.rush ts) o refl)) refl xs n ts g
               (needs.own is arrays events w a
               xs b n p) (f.rush ts o) h k,

@@ -2,6 +2,7 @@
 use Rattle.std.proofs.Common.{◌≡◌, ℕ, ◌-◌, Bool, true, false, not, ◌&&◌, ◌||◌, List, [], ◌∷◌, ◌++◌, Option, refl, sym, ap, ◌∙◌, subst}
 use Rattle.std.specs.Prelude.{Some, None, is_some, slice_get}
 use Rattle.verse_base.specs.declared.places.Place.{Place}
+use Rattle.verse_base.proofs.Facts.{none_is}
 use Rattle.verse_tree.specs.Tree.{Bytes, Written, Tree, tree, Shape, Trees, no_trees, more_trees}
 use Rattle.verse_tree.specs.Tree as t
 use Rattle.verse_tree.specs.ItemTree.{ItemTree}
@@ -37,7 +38,7 @@ use Rattle.verse_accept_classes.specs.Laws.{Quiet, FunctionsStand}
 use Rattle.verse_accept_fine.specs.Needs as needs
 use Rattle.verse_accept_fine.specs.Sorted.{At, ty_at, sorted, program, Allows, is_event_type}
 use Rattle.verse_accept_fine.proofs.Rules.{or_left, or_right}
-use Rattle.verse_accept_fine.proofs.Names.{none_is, added}
+use Rattle.verse_accept_fine.proofs.Names.{added}
 use Rattle.verse_accept_forms.specs.Plain.{Plain, PlainNeeds}
 use Rattle.verse_accept_forms.specs.Callees.{Callees, CalleesNeed, HasValue}
 use Rattle.verse_accept_trees.specs.Targets.{Targets, TargetsNeed}
@@ -45,10 +46,6 @@ use Rattle.verse_accept_trees.specs.Names.{Named}
 
 pub no : {A : Type 0} → false ≡ true → A
 no e = cc
-
-pub apart_from : {A : Type 0} (b : Bool) → b ≡ true → b ≡ false → A
-apart_from true e f = cc
-apart_from false e f = cc
 
 -- ---- shapes
 

@@ -1,8 +1,9 @@
 -- Only the names of Floor and Ceil take a quotient: other callees are none of them.
 use Rattle.std.proofs.Common.{◌≡◌, ℕ, zero, suc, Bool, true, false, not, cond, nat_eq, List, Option, refl, sym, ap, ◌∙◌, subst, arith}
-use Rattle.std.proofs.lemmas.Bool.{eqb-true}
+use Rattle.std.proofs.lemmas.Bool.{not-false}
 use Rattle.std.specs.Prelude.{Some, None, slice_get}
 use Rattle.verse_base.specs.declared.places.Place.{Place}
+use Rattle.verse_base.proofs.Facts.{nat_eq_not}
 use Rattle.verse_tree.specs.Tree.{Bytes, Tree, tree, Shape, Trees}
 use Rattle.verse_tree.specs.Tree as t
 use Rattle.verse_tree.specs.ItemTree.{ItemTree}
@@ -26,20 +27,12 @@ use Rattle.verse_meaning.specs.Evaluating.{Callee, alone, of_object, of_value, o
 use Rattle.verse_accept_rows.specs.Found.{final, Found}
 use Rattle.verse_accept_scopes.specs.Holding.{OnPart}
 use Rattle.verse_accept_fine.specs.Sorted.{At, program}
-use Rattle.verse_accept_fine.proofs.Rules.{not_not}
 use Rattle.verse_accept_fine.proofs.Base.{types, same_known}
-use Rattle.verse_accept_trees.proofs.Nodes.{no, apart_from, IsForm}
+use Rattle.verse_accept_trees.proofs.Nodes.{no, IsForm}
 
 abbrev pub NoQuotient : Callee → Type 0
 NoQuotient (of_quotient f) = ⊥
 NoQuotient k = Unit {0}
-
-other_number : (n m : ℕ) → (n ≡ m → ⊥) → nat_eq n m ≡ false
-other_number n m h = by (nat_eq n m) refl
-  where
-    by : (b : Bool) → nat_eq n m ≡ b → b ≡ false
-    by true e = absurd (h (eqb-true n m e))
-    by false e = refl
 
 round_by : (x y z u : Bool) → y ≡ false → z ≡ false →
     is_round_builtin (cond x (Some b.Print) (cond y (Some b.Round) (cond z (Some b.Round) (cond u (Some b.Modulo) None)))) ≡ false
@@ -52,8 +45,8 @@ round_by false false true u e f = cc
 low_builtin : (n : ℕ) → is_round (Some (ref.Builtin (suc (suc (suc n))))) ≡ false
 low_builtin n =
     let i = suc (suc (suc n)) in
-    round_by (nat_eq i 0) (nat_eq i 1) (nat_eq i 2) (nat_eq i 3) (other_number i 1 (λ e. omega (arith, e)))
-    (other_number i 2 (λ e. omega (arith, e)))
+    round_by (nat_eq i 0) (nat_eq i 1) (nat_eq i 2) (nat_eq i 3) (nat_eq_not i 1 (λ e. omega (arith, e)))
+    (nat_eq_not i 2 (λ e. omega (arith, e)))
 
 builtin_rounds : (i : ℕ) (pl : Place) (k : Callee) → builtin i pl ≡ k → NoQuotient k → is_round (Some (ref.Builtin i)) ≡ false
 builtin_rounds zero pl k e h = refl
@@ -140,7 +133,7 @@ module _ (is : List ItemTree) (arrays events : ℕ → Bool) (w : World) (a : Ar
   callee_rounds n (tree m p t.Shape.this) y pl k h f e q = ap is_round (h.2.ref ∙ h.2.named) ∙ this_rounds w.class
   callee_rounds n (tree m p (t.Shape.instance x gs)) y pl k h f e q =
       ap is_round h.2.ref ∙ class_rounds (named_ref (final is) m)
-      (not_not _ (types is w a xs m p (t.Shape.instance x gs) h.2).callable)
+      (not-false _ (types is w a xs m p (t.Shape.instance x gs) h.2).callable)
   callee_rounds n (tree m p (t.Shape.enum_pattern x v)) y pl k h f e q = absurd (f m p (t.Shape.enum_pattern x v) refl)
   callee_rounds n (tree m p s) y pl k h f e q = ap is_round (h.2.ref ∙ h.2.named)
 

@@ -1,5 +1,5 @@
 -- What types, names and trees must be where a rule of `set` holds.
-use Rattle.std.proofs.Common.{◌≡◌, ℕ, Bool, true, false, cond, List, Option, refl}
+use Rattle.std.proofs.Common.{◌≡◌, ℕ, true, false, List, Option, refl}
 use Rattle.std.specs.Prelude.{Some, None}
 use Rattle.verse_base.specs.declared.places.Place.{Place}
 use Rattle.verse_tree.specs.Tree.{Bytes, tree, Shape, Trees, no_trees, more_trees}
@@ -17,10 +17,6 @@ use Rattle.verse_accept_forms.proofs.CalleeKinds.{OfEnum, of_enum, of_never}
 
 pub untrue : {A : Type 0} → false ≡ true → A
 untrue e = absurd (cc)
-
-pub same_never : (q : Bool) → cond q ty.never ty.never ≡ ty.never
-same_never true = refl
-same_never false = refl
 
 pub not_enum : (u : Ty) (d : ℕ) → OfEnum u → u ≡ ty.class d → ⊥
 not_enum u d of_enum h = cc

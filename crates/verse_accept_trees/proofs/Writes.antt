@@ -1,6 +1,7 @@
 -- What `set` writes, and what it gives.
 use Rattle.std.proofs.Common.{◌≡◌, ◌≢◌, ℕ, Bool, true, List, [], ◌∷◌, ◌++◌, sym, subst}
 use Rattle.verse_base.specs.declared.places.Place.{Place}
+use Rattle.verse_base.proofs.Facts.{and_first, and_second}
 use Rattle.verse_tree.specs.Tree.{Tree}
 use Rattle.verse_tree.specs.ItemTree.{ItemTree}
 use Rattle.verse_tree.specs.declared.exprs.Assign.{Assign}
@@ -27,10 +28,9 @@ use Rattle.verse_sound_rules.specs.Found.{Allowed}
 use Rattle.verse_sound_rules.specs.Found as rules
 use Rattle.verse_sound_rules.specs.Forms.{Gives}
 use Rattle.verse_sound_rules.specs.Forms as takes
-use Rattle.verse_sound_rules.specs.Fine.{target_sorts}
+use Rattle.verse_sound_rules.specs.Fine.{target_sorts, Stores, stores_value, stores_nothing}
 use Rattle.verse_accept_rows.specs.Found.{final}
 use Rattle.verse_accept_fine.specs.Sorted.{ty_at, all_classes, up, sorted, program}
-use Rattle.verse_accept_fine.proofs.Rules.{and_left, and_right}
 use Rattle.verse_accept_fine.proofs.Base.{is_row}
 use Rattle.verse_accept_fine.proofs.Operators.{int_fits}
 use Rattle.verse_accept_trees.proofs.Paths.{joined, all_joined, never_last}
@@ -81,14 +81,22 @@ module _ (is : List ItemTree) (arrays events : ℕ → Bool) (b : Allowed) (xs :
     value = fits_itself (up is) own;
   }
 
-  module _ (e : Tree) (place : Place_of e) (fails : place.indices ≢ [] → b.fails ≡ true) where
+  abbrev Stored : Assign → Tree → Sort → Type 0
+  Stored m e q = Stores whole found (mode_of m) q (sort_of (type_of F e)) own
+
+  pub stored_gives : (m : Assign) (e : Tree) (q : Sort) (place : Place_of e) → (place.indices ≢ [] → b.fails ≡ true) → Stored m e q →
+      Give (form.storing (base_of whole e) (mode_of m) p) (target_sorts whole found e ++ q ∷ [])
+  stored_gives m e q place fails (stores_value v d fit write value) = writes_gives m e q place fails v d fit write value
+  stored_gives m e q place fails stores_nothing = never_gives m e place
+
+  module _ (e : Tree) where
     abbrev Gave : Assign → Ty → Type 0
-    Gave m u = Give (form.storing (base_of whole e) (mode_of m) p) (target_sorts whole found e ++ sort_of u ∷ [])
+    Gave m u = Stored m e (sort_of u)
 
     stores : (m : Assign) (y u : Ty) → type_of F e ≡ y → (v d : Sort) → Fits (up is) (sort_of u) v →
         Writes (up is) (mode_of m) v (sort_of y) d → Fits (up is) d own → Gave m u
     stores m y u f v d fit write value =
-        writes_gives m e (sort_of u) place fails v d fit (subst (λ z. Writes (up is) (mode_of m) v (sort_of z) d) (sym f) write) value
+        stores_value v d fit (subst (λ z. Writes (up is) (mode_of m) v (sort_of z) d) (sym f) write) value
 
     set_by : (y u : Ty) → type_of F e ≡ y → fits (all_classes is) u y ≡ true → ty_at is n ≡ u → Gave assign.Set u
     set_by y u f h r =
@@ -110,7 +118,7 @@ module _ (is : List ItemTree) (arrays events : ℕ → Bool) (b : Allowed) (xs :
     add_by : {y u : Ty} → Summed y u → type_of F e ≡ y → fits (all_classes is) u y ≡ true →
         ty_at is n ≡ or_never (sum_of (all_classes is) y u) → Gave assign.Add u
     add_by (to_never {u = u}) f k r = changes_nothing assign.Add u (λ i. cc) f
-    add_by never_added f k r = never_gives assign.Add e place
+    add_by never_added f k r = stores_nothing
     add_by of_ints f k r = stores assign.Add ty.int ty.int f s.int s.int s.fits_int writes_sum (is_row is n ty.int r)
     add_by (of_arrays {y = y} {u = u}) f k r = add_arrays y u f k r
 
@@ -125,12 +133,12 @@ module _ (is : List ItemTree) (arrays events : ℕ → Bool) (b : Allowed) (xs :
         stores assign.Mul ty.int u f s.int s.int (int_fits is arrays events u h) writes_product (is_row is n ty.int r)
     product_by u no_int f h r = changes_nothing assign.Mul u (λ i. cc) f
 
-    pub gives_by : (m : Assign) (y u : Ty) → type_of F e ≡ y → can_assign (all_classes is) m y u ≡ true →
+    pub stored_by : (m : Assign) (y u : Ty) → type_of F e ≡ y → can_assign (all_classes is) m y u ≡ true →
         ty_at is n ≡ assigned_type (all_classes is) m y u → Gave m u
-    gives_by assign.Set y u f h r = set_by y u f h r
-    gives_by assign.Add y u f h r =
+    stored_by assign.Set y u f h r = set_by y u f h r
+    stored_by assign.Add y u f h r =
         let l = is_summed (sum_of (all_classes is) y u) in
         let k = fits (all_classes is) u y in
-        add_by (summed (all_classes is) y u (and_left l k h)) f (and_right l k h) r
-    gives_by assign.Sub y u f h r = difference_by u (counts y (and_left (is_int y) (is_int u) h)) f (and_right (is_int y) (is_int u) h) r
-    gives_by assign.Mul y u f h r = product_by u (counts y (and_left (is_int y) (is_int u) h)) f (and_right (is_int y) (is_int u) h) r
+        add_by (summed (all_classes is) y u (and_first l k h)) f (and_second l k h) r
+    stored_by assign.Sub y u f h r = difference_by u (counts y (and_first (is_int y) (is_int u) h)) f (and_second (is_int y) (is_int u) h) r
+    stored_by assign.Mul y u f h r = product_by u (counts y (and_first (is_int y) (is_int u) h)) f (and_second (is_int y) (is_int u) h) r

@@ -15,13 +15,13 @@ use Rattle.verse_check_typing.specs.TypeRules.{can_be_set}
 use Rattle.verse_meaning.specs.Residuals as form
 use Rattle.verse_meaning.specs.Evaluating.{base_of, mode_of}
 use Rattle.verse_sound_rules.specs.Found.{Allowed}
-use Rattle.verse_sound_rules.specs.Fine.{target_sorts}
+use Rattle.verse_sound_rules.specs.Fine.{sort_at, target_sorts, Settled, Stores}
 use Rattle.verse_accept_scopes.specs.Holding.{OnPart}
 use Rattle.verse_accept_rows.specs.Found.{final, Found}
 use Rattle.verse_accept_classes.specs.Referring.{Names}
 use Rattle.verse_accept_classes.specs.Laws.{Quiet}
 use Rattle.verse_accept_fine.specs.Sorted.{sorted, program, Allows}
-use Rattle.verse_accept_fine.specs.Needs.{Is, Give, part, NoEnum}
+use Rattle.verse_accept_fine.specs.Needs.{Is, Give, own, part, NoEnum}
 
 module _ (is : List ItemTree) where
   abbrev mutual
@@ -43,6 +43,15 @@ module _ (is : List ItemTree) (arrays events : ℕ → Bool) (w : World) (a : Ar
     pub object : (m : Assign) (e f : Tree) →
         Is is arrays events w a xs b n p (t.Shape.assignment m e f) →
         OnPart (Found is) w n (used_as around.target a) xs e → HasObject is e
+    pub settled : (m : Assign) (e f : Tree) →
+        Is is arrays events w a xs b n p (t.Shape.assignment m e f) →
+        OnPart (Found is) w n (used_as around.target a) xs e →
+        Settled (program is arrays events) (sorted is) b xs e
+    pub stored : (m : Assign) (e f : Tree) →
+        Is is arrays events w a xs b n p (t.Shape.assignment m e f) →
+        OnPart (Found is) w n (used_as around.target a) xs e →
+        Stores (program is arrays events) (sorted is) (mode_of m) (part is arrays events f)
+        (sort_at (program is arrays events) (sorted is) e) (own is arrays events w a xs b n p)
     pub assignment : (m : Assign) (e f : Tree) →
         Is is arrays events w a xs b n p (t.Shape.assignment m e f) →
         OnPart (Found is) w n (used_as around.target a) xs e →

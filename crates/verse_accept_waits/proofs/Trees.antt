@@ -1,6 +1,7 @@
 -- No tree waits in a function that does not suspend, by what is found at its nodes.
 use Rattle.std.proofs.Common.{◌≡◌, ℕ, ◌+◌, Bool, true, false, not, ◌&&◌, ◌||◌, List, refl, sym, ap, ◌∙◌}
 use Rattle.std.specs.Prelude.{None}
+use Rattle.std.proofs.lemmas.Bool.{not-false}
 use Rattle.verse_base.specs.declared.places.Place.{Place}
 use Rattle.verse_tree.specs.Tree.{Tree, tree, Shape, Trees, no_trees, more_trees, Holes, no_holes, more_holes, Givens}
 use Rattle.verse_tree.specs.Tree.{no_givens, more_givens}
@@ -35,8 +36,8 @@ use Rattle.verse_accept_classes.specs.Laws.{Quiet, FunctionsStand}
 use Rattle.verse_accept_fine.specs.Needs.{InnerAllowed}
 use Rattle.verse_accept_fine.specs.Sorted.{At, ty_at, sorted, program, Allows, is_event_type}
 use Rattle.verse_accept_fine.proofs.Base as found
-use Rattle.verse_accept_fine.proofs.Rules.{not_not}
 use Rattle.verse_accept_forms.proofs.CalleeKinds.{IsFixed, fixed_int, fixed_enum, kind_of}
+use Rattle.verse_accept_forms.proofs.CallForms.{not_called}
 use Rattle.verse_accept_waits.specs.Suspending.{suspending}
 use Rattle.verse_accept_waits.proofs.Callees.{callee_stays, spawned_stays}
 
@@ -48,10 +49,6 @@ no_async : (q r d : Bool) → (q && (not r || d)) ≡ false → r ≡ false → 
 no_async false r d h e = refl
 no_async true true d h e = cc
 no_async true false d h e = cc
-
-not_called : (u : Ty) → IsFixed u → can_call (types.value u) ≡ false
-not_called u fixed_int = refl
-not_called u fixed_enum = refl
 
 picked_stays : (p : Program) (f : allowed.Found) (g : ℕ → Bool) (class : Rattle.std.specs.Prelude.Option ℕ) (ts : Trees)
     →
@@ -131,13 +128,13 @@ module _ (is : List ItemTree) (arrays events : ℕ → Bool) (quiet : Quiet is) 
       →
       (u : Ty) → IsFixed u → types.callee_of (final is) e ≡ types.value u → ⊥
   no_call a xs n p e ts h u f g = no (sym (ap can_call (sym g)
-      ∙ not_not _ (found.types is w a xs n p (t.Shape.call e ts) h).callable) ∙ not_called u f)
+      ∙ not-false _ (found.types is w a xs n p (t.Shape.call e ts) h).callable) ∙ not_called u f)
 
   no_index : (a : Around) (xs : Table) (n : ℕ) (p : Place) (e : Tree) (ts : Trees) → At is w a xs n p
       (t.Shape.index e ts) →
       (u : Ty) → IsFixed u → types.callee_of (final is) e ≡ types.value u → ⊥
   no_index a xs n p e ts h u f g = no (sym (ap (λ z. indices_fit (final is) z ts) (sym g)
-      ∙ not_not _ (found.types is w a xs n p (t.Shape.index e ts) h).matched) ∙ not_indexed u ts f)
+      ∙ not-false _ (found.types is w a xs n p (t.Shape.index e ts) h).matched) ∙ not_indexed u ts f)
 
   mutual
     shape_quiet : (x : Shape) (a : Around) (b : Allowed) → Here a b → is_spawned a.used ≡ false → (xs : Table) (n : ℕ)

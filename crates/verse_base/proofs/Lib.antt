@@ -1,2 +1,3 @@
+pub mod Facts
 pub mod Division
 pub mod Residues

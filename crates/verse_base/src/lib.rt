@@ -2,6 +2,9 @@
 //!
 //! To be read in this order: `limits`; `places`, `refusals`, `rules`, `rule_texts`, what is
 //! refused and where; `arithmetic`; `texts`.
+//!
+//! The public lemmas, which crates above cite, are those of `proofs/Facts`, on tests, lists and
+//! numbers, and of `proofs/Division` and `proofs/Residues`.
 #![tactic(auto)]
 
 pub mod arithmetic;

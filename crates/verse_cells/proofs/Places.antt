@@ -1,6 +1,6 @@
 -- Changes of one slot, from a list of values to a list of cells.
-use Rattle.std.proofs.Common.{◌≡◌, false, true, ◌<◌, ℕ, zero, suc, List, [], ◌∷◌, length, get_or, set, Option, Some, IsSome, Result, Ok}
-use Rattle.std.proofs.Common.{Err, IfOk, OnErr, refl, ap, sym, arith, ◌∙◌}
+use Rattle.std.proofs.Common.{◌≡◌, false, true, ◌<◌, ℕ, zero, suc, List, [], ◌∷◌, length, get_or, set, Option, Some, IsSome}
+use Rattle.std.proofs.Common.{refl, ap, sym, arith, ◌∙◌}
 use Rattle.std.specs.List.{slice_get}
 use Rattle.std.specs.Option.{option_map, option_and_then}
 use Rattle.std.proofs.lemmas.List.{map-set}
@@ -15,14 +15,6 @@ use Rattle.verse_value_writes.specs.declared.writes.Undo.{Undo}
 use Rattle.verse_cells.specs.View.{cell_of, cells_of}
 use Rattle.verse_cells.specs.Changes.{InSlot, InCell, CanUndoIn}
 use Rattle.verse_cells.specs.declared.slots.Cell.{Cell}
-
-pub if_ok : {T E : Type 0} {P Q : T → Type 0} (r : Result T E) → ((x : T) → P x → Q x) → IfOk r P → IfOk r Q
-if_ok (Ok x) f h = f x h
-if_ok (Err e) f h = h
-
-pub on_err : {T E P Q : Type 0} (r : Result T E) → (P → Q) → OnErr r P → OnErr r Q
-on_err (Ok x) f h = h
-on_err (Err e) f h = f h
 
 set_same : {A : Type 0} (xs : List A) (i : ℕ) (x : A) → slice_get xs i ≡ Some x → set xs i x ≡ xs
 set_same [] i x e = refl

@@ -51,11 +51,11 @@ use verse_tree::types::TyName;
 
 /// The pass: the tables of the program.
 #[derive(Drop)]
-struct TypesPass<'a> {
-    world: &'a World<'a>,
+struct TypesPass<'w, 'a> {
+    world: &'w World<'w, 'a>,
 }
 
-impl<'a> TypesPass<'a> {
+impl<'w, 'a> TypesPass<'w, 'a> {
     /// Adds an expression, but for the loop that it leaves.
     fn add_form(
         &self,
@@ -174,7 +174,7 @@ impl<'a> TypesPass<'a> {
     }
 }
 
-impl<'a> Pass for TypesPass<'a> {
+impl<'w, 'a> Pass for TypesPass<'w, 'a> {
     type Seen = Seen;
 
     ghost Sight = { Sight };
@@ -312,7 +312,7 @@ fn see_by(
     Ok(seen)
 }
 
-fn see_in(alloc: Global, items: &[Item], world: &World<'_>) -> Result<Seen, Memory>
+fn see_in(alloc: Global, items: &[Item], world: &World<'_, '_>) -> Result<Seen, Memory>
     ensures { IfOk result (λ s. sight_of s ≡
         seen (world_of world.now) (items_nodes (map item_of items.now))) }
 {

@@ -45,7 +45,7 @@ impl Seen {
     }
 
     /// What is known at the next node.
-    pub fn facts<'a>(&'a self, world: &'a World<'a>) -> Facts<'a>
+    pub fn facts<'w, 'a>(&'w self, world: &'w World<'w, 'a>) -> Facts<'w, 'a>
         ensures { facts_of result ≡ s.facts (world_of world.now) (sight_of self.now) }
     {
         Facts {

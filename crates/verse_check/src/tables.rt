@@ -23,7 +23,7 @@ fn class_members<'a>(alloc: Global, known: &Known<'a>) -> Result<Vec<Members<'a>
 {
     let mut found = Vec::new(alloc);
     let mut at = 0u32;
-    'classes: for _class in known.outline.as_slice() {
+    'classes: for _class in known.lineage.outline.as_slice() {
         found.push(all_members(alloc, known, at)?)?;
         at = next(at)?;
     }

@@ -22,7 +22,7 @@ fn is_void(ty: &Ty) -> bool
     matches!(ty, Ty::Void)
 }
 
-fn would_fit(facts: &Facts<'_>, given: Option<&Ty>, wanted: &Ty) -> bool
+fn would_fit(facts: &Facts<'_, '_>, given: Option<&Ty>, wanted: &Ty) -> bool
     ensures { result ≡ c.would_fit (facts_of facts.now)
         (option_map ty_of (option_copied given.entry)) (ty_of wanted.now) }
 {
@@ -74,7 +74,7 @@ fn would_be_quotient(parts: &[Expr]) -> bool
     }
 }
 
-fn would_signal(facts: &Facts<'_>, given: Option<&Ty>, wanted: &Ty) -> bool
+fn would_signal(facts: &Facts<'_, '_>, given: Option<&Ty>, wanted: &Ty) -> bool
     ensures { result ≡ cond (p.is_void (ty_of wanted.now)) true
         (c.would_fit (facts_of facts.now) (option_map ty_of (option_copied given.entry))
         (ty_of wanted.now)) }
@@ -84,7 +84,12 @@ fn would_signal(facts: &Facts<'_>, given: Option<&Ty>, wanted: &Ty) -> bool
 
 /// Whether the arguments fit what is called, where this is a built-in function; those of others are
 /// tested one by one. `text` is the type of texts.
-pub fn do_arguments_fit(facts: &Facts<'_>, text: &Ty, callee: Callee<'_>, parts: &[Expr]) -> bool
+pub fn do_arguments_fit(
+    facts: &Facts<'_, '_>,
+    text: &Ty,
+    callee: Callee<'_>,
+    parts: &[Expr],
+) -> bool
     requires { ty_of text.now ≡ t.string }
     ensures { result ≡ c.arguments_fit (facts_of facts.now) (callee_of callee.entry)
         (trees (map tree_of parts.now)) }
@@ -100,7 +105,7 @@ pub fn do_arguments_fit(facts: &Facts<'_>, text: &Ty, callee: Callee<'_>, parts:
     }
 }
 
-fn does_index_fit(facts: &Facts<'_>, container: &Ty, parts: &[Expr]) -> bool
+fn does_index_fit(facts: &Facts<'_, '_>, container: &Ty, parts: &[Expr]) -> bool
     ensures { result ≡ c.index_fits (facts_of facts.now) (ty_of container.now)
         (trees (map tree_of parts.now)) }
 {
@@ -111,7 +116,7 @@ fn does_index_fit(facts: &Facts<'_>, container: &Ty, parts: &[Expr]) -> bool
     }
 }
 
-fn can_index(facts: &Facts<'_>, container: &Ty, parts: &[Expr]) -> bool
+fn can_index(facts: &Facts<'_, '_>, container: &Ty, parts: &[Expr]) -> bool
     ensures { result ≡ c.can_index (facts_of facts.now) (ty_of container.now)
         (trees (map tree_of parts.now)) }
 {
@@ -124,7 +129,7 @@ fn can_index(facts: &Facts<'_>, container: &Ty, parts: &[Expr]) -> bool
 }
 
 /// The same behind square brackets, which are an index behind what is no function.
-pub fn do_indices_fit(facts: &Facts<'_>, text: &Ty, callee: Callee<'_>, parts: &[Expr]) -> bool
+pub fn do_indices_fit(facts: &Facts<'_, '_>, text: &Ty, callee: Callee<'_>, parts: &[Expr]) -> bool
     requires { ty_of text.now ≡ t.string }
     ensures { result ≡ c.indices_fit (facts_of facts.now) (callee_of callee.entry)
         (trees (map tree_of parts.now)) }

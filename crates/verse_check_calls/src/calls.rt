@@ -178,7 +178,11 @@ fn has_called_item(callee: Callee<'_>, parts: &[Expr]) -> bool
     }
 }
 
-fn call_code(facts: &Facts<'_>, callee: Callee<'_>, parts: &[Expr]) -> Result<Option<u16>, Memory>
+fn call_code(
+    facts: &Facts<'_, '_>,
+    callee: Callee<'_>,
+    parts: &[Expr],
+) -> Result<Option<u16>, Memory>
     ensures { IfOk result (λ o. o ≡
         cond (not (c.arguments_fit (facts_of facts.now) (callee_of callee.entry)
         (trees (map tree_of parts.now)))) (Some TYPES_DIFFER)
@@ -202,7 +206,11 @@ fn call_code(facts: &Facts<'_>, callee: Callee<'_>, parts: &[Expr]) -> Result<Op
     }
 }
 
-fn index_code(facts: &Facts<'_>, callee: Callee<'_>, parts: &[Expr]) -> Result<Option<u16>, Memory>
+fn index_code(
+    facts: &Facts<'_, '_>,
+    callee: Callee<'_>,
+    parts: &[Expr],
+) -> Result<Option<u16>, Memory>
     ensures { IfOk result (λ o. o ≡
         cond (not (c.indices_fit (facts_of facts.now) (callee_of callee.entry)
         (trees (map tree_of parts.now)))) (Some TYPES_DIFFER)
@@ -223,7 +231,7 @@ fn index_code(facts: &Facts<'_>, callee: Callee<'_>, parts: &[Expr]) -> Result<O
 }
 
 /// `E(F, G)`.
-pub fn call(facts: &Facts<'_>, applied: &Applied) -> Result<Judged, Memory>
+pub fn call(facts: &Facts<'_, '_>, applied: &Applied) -> Result<Judged, Memory>
     ensures { IfOk result (λ j. judged_of j ≡
         record {
           ty = c.call_type (callees.callee_of (facts_of facts.now)
@@ -250,7 +258,7 @@ pub fn call(facts: &Facts<'_>, applied: &Applied) -> Result<Judged, Memory>
 }
 
 /// `E[F, G]`.
-pub fn index(facts: &Facts<'_>, applied: &Applied) -> Result<Judged, Memory>
+pub fn index(facts: &Facts<'_, '_>, applied: &Applied) -> Result<Judged, Memory>
     ensures { IfOk result (λ j. judged_of j ≡
         record {
           ty = c.index_type (callees.callee_of (facts_of facts.now)
@@ -274,7 +282,7 @@ pub fn index(facts: &Facts<'_>, applied: &Applied) -> Result<Judged, Memory>
     Ok(Judged { ty, code })
 }
 
-fn is_suspending_call(facts: &Facts<'_>, form: &Form) -> bool
+fn is_suspending_call(facts: &Facts<'_, '_>, form: &Form) -> bool
     ensures { result ≡ r.is_suspending_call (facts_of facts.now) (shape_of form.now) }
 {
     match form {
@@ -284,14 +292,14 @@ fn is_suspending_call(facts: &Facts<'_>, form: &Form) -> bool
     }
 }
 
-fn can_be_spawned(facts: &Facts<'_>, part: &Expr) -> bool
+fn can_be_spawned(facts: &Facts<'_, '_>, part: &Expr) -> bool
     ensures { result ≡ r.can_be_spawned (facts_of facts.now) (tree_of part.now) }
 {
     is_suspending_call(facts, &part.form)
 }
 
 /// `spawn{E}`.
-pub fn spawn(facts: &Facts<'_>, part: &Expr) -> Result<Judged, Memory>
+pub fn spawn(facts: &Facts<'_, '_>, part: &Expr) -> Result<Judged, Memory>
     ensures { IfOk result (λ j. judged_of j ≡
         record {
           ty = t.task (type_of (facts_of facts.now) (tree_of part.now));

@@ -6,6 +6,7 @@ ghost use Rattle.verse_tree.specs.View.{given_of, givens};
 ghost use Rattle.verse_rules_types.specs.Types.{ty_of};
 ghost use Rattle.verse_check_typing.specs.Facts.{named_ref};
 ghost use Rattle.verse_check_typing.specs.Members as m;
+ghost use Rattle.verse_check_calls.specs.Given.{all_have};
 ghost use Rattle.verse_check_typing.specs.Rows as rows;
 ghost use Rattle.verse_check_typing.specs.TypeRules as r;
 ghost use Rattle.verse_check_typing.specs.Views.{facts_of, judged_of, numbers_of};
@@ -14,6 +15,7 @@ ghost use Rattle.verse_base.specs.declared.rules.TheConstants.{TYPES_DIFFER, UNC
 
 use crate::members::field_by;
 use crate::names::class_type;
+use shared_list::{Halves, SharedList};
 use verse_base::refusals::Memory;
 use verse_base::rules::{LACKING, MEMBERLESS, TYPES_DIFFER, UNCALLABLE};
 use verse_check_typing::facts::Facts;
@@ -21,9 +23,10 @@ use verse_check_typing::judged::Judged;
 use verse_check_typing::sets::NumberSet;
 use verse_rules_types::fitting::does_fit;
 use verse_tree::exprs::Given;
-use verse_tree::tables::{FieldInfo, Ref, Ty};
+use verse_tree::fields::FieldList;
+use verse_tree::tables::{Ref, Ty};
 
-fn does_fit_field(facts: &Facts<'_>, class: u32, ty: &Ty, place: Option<u32>) -> bool
+fn does_fit_field(facts: &Facts<'_, '_>, class: u32, ty: &Ty, place: Option<u32>) -> bool
     ensures { result ≡ m.fits_field (facts_of facts.now) class (ty_of ty.now) place }
 {
     match place {
@@ -32,7 +35,7 @@ fn does_fit_field(facts: &Facts<'_>, class: u32, ty: &Ty, place: Option<u32>) ->
     }
 }
 
-fn does_fit_at(facts: &Facts<'_>, class: u32, ty: &Ty, place: u32) -> bool
+fn does_fit_at(facts: &Facts<'_, '_>, class: u32, ty: &Ty, place: u32) -> bool
     ensures { result ≡ m.fits_field (facts_of facts.now) class (ty_of ty.now) (Some place) }
 {
     match facts.field_at(class, place) {
@@ -42,7 +45,7 @@ fn does_fit_at(facts: &Facts<'_>, class: u32, ty: &Ty, place: u32) -> bool
 }
 
 /// Whether each value fits its field, where there is a field of its name.
-fn do_givens_fit(facts: &Facts<'_>, class: u32, parts: &[Given]) -> bool
+fn do_givens_fit(facts: &Facts<'_, '_>, class: u32, parts: &[Given]) -> bool
     ensures { result ≡ m.givens_fit (facts_of facts.now) class (givens (map given_of parts.now)) }
 {
     'parts: for part in parts {
@@ -56,7 +59,7 @@ fn do_givens_fit(facts: &Facts<'_>, class: u32, parts: &[Given]) -> bool
 }
 
 /// Whether each name is that of a field.
-fn are_fields(facts: &Facts<'_>, class: u32, parts: &[Given]) -> bool
+fn are_fields(facts: &Facts<'_, '_>, class: u32, parts: &[Given]) -> bool
     ensures { result ≡ m.are_fields (facts_of facts.now) class (givens (map given_of parts.now)) }
 {
     'parts: for part in parts {
@@ -77,7 +80,7 @@ fn add_place(places: &mut NumberSet, place: Option<u32>) -> Result<(), Memory>
 }
 
 /// The places of the fields that are given.
-fn places(facts: &Facts<'_>, class: u32, parts: &[Given]) -> Result<NumberSet, Memory>
+fn places(facts: &Facts<'_, '_>, class: u32, parts: &[Given]) -> Result<NumberSet, Memory>
     ensures { IfOk result (λ s. numbers_of s ≡ m.places_from (facts_of facts.now) class []
         (givens (map given_of parts.now))) }
 {
@@ -89,47 +92,38 @@ fn places(facts: &Facts<'_>, class: u32, parts: &[Given]) -> Result<NumberSet, M
     Ok(found)
 }
 
-/// Whether each field has a default or is given.
-fn are_all_given(given: &NumberSet, fields: &[FieldInfo]) -> Result<bool, Memory>
-    ensures { IfOk result (λ b. b ≡ m.all_given (numbers_of given.now) 0 fields.now) }
+/// Whether all these places are given.
+#[tactic(auto, using(crate::proofs::Given::one_given, crate::proofs::Given::both_given))]
+fn are_all_given(given: &NumberSet, lacking: &SharedList<u32>) -> bool
+    ensures { result ≡ all_have (numbers_of given.now) lacking.now }
 {
-    let mut at = 0u32;
-    'fields: for field in fields {
-        if field.default.is_none() && !given.has(at) {
-            return Ok(false);
-        }
-        at = next(at)?;
-    }
-    Ok(true)
-}
-
-fn next(at: u32) -> Result<u32, Memory>
-    ensures { IfOk result (λ n. n ≡ at + 1) }
-{
-    match at.checked_add(1) {
-        None => Err(Memory),
-        Some(at) => Ok(at),
+    match lacking.halves() {
+        Halves::Nothing => true,
+        Halves::One(place) => given.has(*place),
+        Halves::Two(left, right) => are_all_given(given, left) && are_all_given(given, right),
     }
 }
 
-fn fields_of<'a>(facts: &Facts<'a>, class: u32) -> &'a [FieldInfo]
-    ensures { result.now ≡ m.fields_of (facts_of facts.now) class }
+/// Whether all fields of a class that have no default are given.
+#[tactic(auto, using(crate::proofs::Given::all_lacking))]
+fn gives_all(given: &NumberSet, fields: &FieldList) -> bool
+    ensures { result ≡ m.all_given (numbers_of given.now) 0 fields.now }
 {
-    match facts.classes().get(class as usize) {
-        None => &[],
-        Some(info) => info.fields.as_slice(),
-    }
+    are_all_given(given, fields.lacking())
 }
 
-fn has_all(facts: &Facts<'_>, class: u32, parts: &[Given]) -> Result<bool, Memory>
+fn has_all(facts: &Facts<'_, '_>, class: u32, parts: &[Given]) -> Result<bool, Memory>
     ensures { IfOk result (λ b. b ≡
         m.has_all (facts_of facts.now) class (givens (map given_of parts.now))) }
 {
     let given = places(facts, class, parts)?;
-    are_all_given(&given, fields_of(facts, class))
+    match facts.classes().get(class as usize) {
+        None => Ok(true),
+        Some(info) => Ok(gives_all(&given, &info.fields)),
+    }
 }
 
-fn class_code(facts: &Facts<'_>, class: u32, parts: &[Given]) -> Result<Option<u16>, Memory>
+fn class_code(facts: &Facts<'_, '_>, class: u32, parts: &[Given]) -> Result<Option<u16>, Memory>
     ensures { IfOk result (λ c. c ≡
         cond (not (m.givens_fit (facts_of facts.now) class (givens (map given_of parts.now))))
         (Some TYPES_DIFFER) (cond (not (m.has_all (facts_of facts.now) class
@@ -150,7 +144,7 @@ fn class_code(facts: &Facts<'_>, class: u32, parts: &[Given]) -> Result<Option<u
 }
 
 fn instance_code(
-    facts: &Facts<'_>,
+    facts: &Facts<'_, '_>,
     what: Option<Ref>,
     parts: &[Given],
 ) -> Result<Option<u16>, Memory>
@@ -171,7 +165,7 @@ fn instance_code(
 }
 
 /// `c{F := E}`.
-pub fn instance(facts: &Facts<'_>, node: u32, parts: &[Given]) -> Result<Judged, Memory>
+pub fn instance(facts: &Facts<'_, '_>, node: u32, parts: &[Given]) -> Result<Judged, Memory>
     ensures { IfOk result (λ j. judged_of j ≡
         record {
           ty = rows.class_type (named_ref (facts_of facts.now) node);

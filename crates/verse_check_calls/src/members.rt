@@ -2,8 +2,6 @@
 
 ghost use Rattle.std.specs.Prelude.{◌≡◌, ◌||◌, not, cond, Some, None, IfOk, slice_get, map};
 ghost use Rattle.verse_tree.specs.View.{tree_of};
-ghost use Rattle.verse_names_declarations.specs.Names.{look};
-ghost use Rattle.verse_names_declarations.specs.Lines.{members_view};
 ghost use Rattle.verse_check_typing.specs.Refs.{ref_at};
 ghost use Rattle.verse_rules_types.specs.Types.{ty_of};
 ghost use Rattle.verse_rules_walk.specs.Nodes.{number_of_tree};
@@ -20,7 +18,6 @@ use verse_base::refusals::Memory;
 use verse_base::rules::MEMBERLESS;
 use verse_check_typing::facts::Facts;
 use verse_check_typing::judged::{Judged, tested};
-use verse_names_declarations::members::Members;
 use verse_rules_walk::arounds::Used;
 use verse_tree::exprs::Expr;
 use verse_tree::tables::{Ref, Ty};
@@ -45,60 +42,48 @@ fn place_of(what: Option<Ref>) -> Option<u32>
 }
 
 /// The place of the field of a class that has this name.
-pub fn field_by(facts: &Facts<'_>, class: u32, name: &[u8]) -> Option<u32>
+pub fn field_by(facts: &Facts<'_, '_>, class: u32, name: &[u8]) -> Option<u32>
     ensures { result ≡ m.field_by (facts_of facts.now) class name.now }
 {
     match facts.world.members.get(class as usize) {
         None => None,
-        Some(members) => place_of(members.fields.find(name)),
+        Some(members) => place_of(members.field(name)),
     }
 }
 
-fn method_in(members: &Members<'_>, name: &[u8]) -> Result<Option<u32>, Memory>
-    ensures { IfOk result (λ p. p ≡ m.method_named (Some (members_view members.now)) name.now) }
-{
-    match members.methods.place(name) {
-        None => Ok(None),
-        Some(place) => match u32::try_from(place) {
-            Ok(place) => Ok(Some(place)),
-            Err(_) => Err(Memory),
-        },
-    }
-}
-
-fn method_by(facts: &Facts<'_>, class: u32, name: &[u8]) -> Result<Option<u32>, Memory>
-    ensures { IfOk result (λ p. p ≡ m.method_by (facts_of facts.now) class name.now) }
+fn method_by(facts: &Facts<'_, '_>, class: u32, name: &[u8]) -> Option<u32>
+    ensures { result ≡ m.method_by (facts_of facts.now) class name.now }
 {
     match facts.world.members.get(class as usize) {
-        None => Ok(None),
-        Some(members) => method_in(members, name),
+        None => None,
+        Some(members) => members.method_place(name),
     }
 }
 
 /// The field or the method of a class that has this name.
-fn class_member(facts: &Facts<'_>, class: u32, name: &[u8]) -> Result<Option<Ref>, Memory>
-    ensures { IfOk result (λ p. p ≡ m.class_member (facts_of facts.now) class name.now) }
+fn class_member(facts: &Facts<'_, '_>, class: u32, name: &[u8]) -> Option<Ref>
+    ensures { result ≡ m.class_member (facts_of facts.now) class name.now }
 {
     if let Some(place) = field_by(facts, class, name) {
-        return Ok(Some(Ref::Field(class, place)));
+        return Some(Ref::Field(class, place));
     }
-    match method_by(facts, class, name)? {
-        None => Ok(None),
-        Some(place) => Ok(Some(Ref::Method(class, place))),
+    match method_by(facts, class, name) {
+        None => None,
+        Some(place) => Some(Ref::Method(class, place)),
     }
 }
 
 /// What a member refers to, by the type of its object.
-pub fn member_ref(facts: &Facts<'_>, object: &Ty, name: &[u8]) -> Result<Option<Ref>, Memory>
+pub fn member_ref(facts: &Facts<'_, '_>, object: &Ty, name: &[u8]) -> Result<Option<Ref>, Memory>
     ensures { IfOk result (λ p. p ≡ m.member_ref (facts_of facts.now) (ty_of object.now) name.now) }
 {
     match object {
-        Ty::Class(class) => class_member(facts, *class, name),
+        Ty::Class(class) => Ok(class_member(facts, *class, name)),
         _ => Ok(None),
     }
 }
 
-fn by_ref(facts: &Facts<'_>, what: Option<Ref>) -> Result<Member, Memory>
+fn by_ref(facts: &Facts<'_, '_>, what: Option<Ref>) -> Result<Member, Memory>
     ensures { IfOk result (λ p. view p ≡ m.by_ref (facts_of facts.now) what) }
 {
     match what {
@@ -138,13 +123,13 @@ fn named_event(name: &[u8]) -> Member
     }
 }
 
-fn type_member(facts: &Facts<'_>, object: &Ty, name: &[u8]) -> Result<Member, Memory>
+fn type_member(facts: &Facts<'_, '_>, object: &Ty, name: &[u8]) -> Result<Member, Memory>
     ensures { IfOk result (λ p. view p ≡
         m.type_member (facts_of facts.now) (ty_of object.now) name.now) }
 {
     match object {
         Ty::Never => Ok(Member::Part(Ty::Never)),
-        Ty::Class(class) => by_ref(facts, class_member(facts, *class, name)?),
+        Ty::Class(class) => by_ref(facts, class_member(facts, *class, name)),
         Ty::Array(_) => Ok(named_length(name)),
         Ty::Map(_) => Ok(named_length(name)),
         Ty::Task(_) => Ok(named_await(name)),
@@ -153,7 +138,7 @@ fn type_member(facts: &Facts<'_>, object: &Ty, name: &[u8]) -> Result<Member, Me
     }
 }
 
-fn enum_member(facts: &Facts<'_>, of: u32, name: &[u8]) -> Member
+fn enum_member(facts: &Facts<'_, '_>, of: u32, name: &[u8]) -> Member
     ensures { view result ≡ m.enum_member (facts_of facts.now) of name.now }
 {
     if facts.is_value(of, name) {
@@ -163,7 +148,7 @@ fn enum_member(facts: &Facts<'_>, of: u32, name: &[u8]) -> Member
     }
 }
 
-fn member_of(facts: &Facts<'_>, object: &Expr, name: &[u8]) -> Result<Member, Memory>
+fn member_of(facts: &Facts<'_, '_>, object: &Expr, name: &[u8]) -> Result<Member, Memory>
     ensures { IfOk result (λ p. view p ≡
         m.member_of (facts_of facts.now)
         (ref_at (facts_of facts.now).refs (number_of_tree (tree_of object.now)))
@@ -202,7 +187,7 @@ fn judge_member(called: bool, member: Member) -> Judged
 
 /// `E.F`.
 pub fn member_form(
-    facts: &Facts<'_>,
+    facts: &Facts<'_, '_>,
     used: Used<'_>,
     object: &Expr,
     name: &[u8],

@@ -21,7 +21,7 @@ use verse_rules_walk::arounds::Used;
 use verse_tree::tables::{Ref, Ty};
 
 /// The type of the field of a class at a place.
-pub fn field_type(facts: &Facts<'_>, class: u32, place: u32) -> Result<Ty, Memory>
+pub fn field_type(facts: &Facts<'_, '_>, class: u32, place: u32) -> Result<Ty, Memory>
     ensures { IfOk result (λ t. ty_of t ≡ m.field_type (facts_of facts.now) class place) }
 {
     match facts.field_at(class, place) {
@@ -41,7 +41,7 @@ fn index_type(alloc: Global, domain: &Ty) -> Result<Ty, Memory>
     }
 }
 
-fn name_type(facts: &Facts<'_>, what: Option<Ref>) -> Result<Ty, Memory>
+fn name_type(facts: &Facts<'_, '_>, what: Option<Ref>) -> Result<Ty, Memory>
     ensures { IfOk result (λ t. ty_of t ≡ rows.name_type (facts_of facts.now) what) }
 {
     let alloc = facts.world.alloc;
@@ -76,7 +76,7 @@ fn takes_item(used: Used<'_>, what: Option<Ref>) -> bool
 }
 
 /// A name.
-pub fn name(facts: &Facts<'_>, used: Used<'_>, node: u32) -> Result<Judged, Memory>
+pub fn name(facts: &Facts<'_, '_>, used: Used<'_>, node: u32) -> Result<Judged, Memory>
     ensures { IfOk result (λ j. judged_of j ≡
         record {
           ty = rows.name_type (facts_of facts.now) (named_ref (facts_of facts.now) node);

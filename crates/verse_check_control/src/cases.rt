@@ -48,7 +48,7 @@ fn is_subject(ty: &Ty) -> bool
     }
 }
 
-fn does_form_fit(facts: &Facts<'_>, subject: &Ty, form: &Form) -> bool
+fn does_form_fit(facts: &Facts<'_, '_>, subject: &Ty, form: &Form) -> bool
     ensures { result ≡ c.shape_fits (facts_of facts.now) (ty_of subject.now) (shape_of form.now) }
 {
     match form {
@@ -58,7 +58,7 @@ fn does_form_fit(facts: &Facts<'_>, subject: &Ty, form: &Form) -> bool
 }
 
 /// Whether the pattern of each arm fits the subject.
-fn do_arms_fit(facts: &Facts<'_>, subject: &Ty, arms: &[Expr]) -> bool
+fn do_arms_fit(facts: &Facts<'_, '_>, subject: &Ty, arms: &[Expr]) -> bool
     ensures { result ≡ c.arms_fit (facts_of facts.now) (ty_of subject.now)
         (trees (map tree_of arms.now)) }
 {
@@ -70,14 +70,14 @@ fn do_arms_fit(facts: &Facts<'_>, subject: &Ty, arms: &[Expr]) -> bool
     true
 }
 
-fn can_case(facts: &Facts<'_>, subject: &Ty, arms: &[Expr]) -> bool
+fn can_case(facts: &Facts<'_, '_>, subject: &Ty, arms: &[Expr]) -> bool
     ensures { result ≡ c.can_case (facts_of facts.now) (ty_of subject.now)
         (trees (map tree_of arms.now)) }
 {
     is_subject(subject) && (is_never(subject) || do_arms_fit(facts, subject, arms))
 }
 
-fn case_type(facts: &Facts<'_>, subject: &Ty, arms: &[Expr]) -> Result<Ty, Memory>
+fn case_type(facts: &Facts<'_, '_>, subject: &Ty, arms: &[Expr]) -> Result<Ty, Memory>
     ensures { IfOk result (λ t. ty_of t ≡ c.case_type (facts_of facts.now) (ty_of subject.now)
         (trees (map tree_of arms.now))) }
 {
@@ -134,7 +134,7 @@ fn add_value<'a>(names: &mut NameSet<'a>, is_wanted: bool, value: &'a [u8]) -> R
 }
 
 fn add_pattern<'a>(
-    facts: &Facts<'_>,
+    facts: &Facts<'_, '_>,
     of: u32,
     node: u32,
     form: &'a Form,
@@ -153,7 +153,7 @@ fn add_pattern<'a>(
 }
 
 fn add_arm<'a>(
-    facts: &Facts<'_>,
+    facts: &Facts<'_, '_>,
     of: u32,
     form: &'a Form,
     names: &mut NameSet<'a>,
@@ -171,7 +171,7 @@ fn add_arm<'a>(
 }
 
 /// The values of an enum that the patterns name.
-fn named<'a>(facts: &Facts<'_>, of: u32, arms: &'a [Expr]) -> Result<NameSet<'a>, Memory>
+fn named<'a>(facts: &Facts<'_, '_>, of: u32, arms: &'a [Expr]) -> Result<NameSet<'a>, Memory>
     ensures { IfOk result (λ s. names_of s ≡ c.named_from (facts_of facts.now) of []
         (trees (map tree_of arms.now))) }
 {
@@ -182,7 +182,7 @@ fn named<'a>(facts: &Facts<'_>, of: u32, arms: &'a [Expr]) -> Result<NameSet<'a>
     Ok(found)
 }
 
-fn values_of<'a>(facts: &Facts<'a>, of: u32) -> &'a [&'a [u8]]
+fn values_of<'a>(facts: &Facts<'a, '_>, of: u32) -> &'a [&'a [u8]]
     ensures { map bytes_of result.now ≡ values_of (facts_of facts.now) of }
 {
     match facts.world.values.get(of as usize) {
@@ -203,7 +203,7 @@ fn has_all(named: &NameSet<'_>, values: &[&[u8]]) -> bool
 }
 
 /// Whether each value of the subject's enum has an arm.
-fn are_all_named(facts: &Facts<'_>, subject: &Ty, arms: &[Expr]) -> Result<bool, Memory>
+fn are_all_named(facts: &Facts<'_, '_>, subject: &Ty, arms: &[Expr]) -> Result<bool, Memory>
     ensures { IfOk result (λ b. b ≡ c.all_named (facts_of facts.now) (ty_of subject.now)
         (trees (map tree_of arms.now))) }
 {
@@ -216,7 +216,7 @@ fn are_all_named(facts: &Facts<'_>, subject: &Ty, arms: &[Expr]) -> Result<bool,
     }
 }
 
-fn are_covered(facts: &Facts<'_>, subject: &Ty, arms: &[Expr]) -> Result<bool, Memory>
+fn are_covered(facts: &Facts<'_, '_>, subject: &Ty, arms: &[Expr]) -> Result<bool, Memory>
     ensures { IfOk result (λ b. b ≡ c.are_covered (facts_of facts.now) (ty_of subject.now)
         (trees (map tree_of arms.now))) }
 {
@@ -226,7 +226,7 @@ fn are_covered(facts: &Facts<'_>, subject: &Ty, arms: &[Expr]) -> Result<bool, M
     are_all_named(facts, subject, arms)
 }
 
-fn case_code(facts: &Facts<'_>, subject: &Ty, arms: &[Expr]) -> Result<Option<u16>, Memory>
+fn case_code(facts: &Facts<'_, '_>, subject: &Ty, arms: &[Expr]) -> Result<Option<u16>, Memory>
     ensures { IfOk result (λ o. o ≡
         cond (not (c.can_case (facts_of facts.now) (ty_of subject.now)
         (trees (map tree_of arms.now)))) (Some TYPES_DIFFER)
@@ -244,7 +244,7 @@ fn case_code(facts: &Facts<'_>, subject: &Ty, arms: &[Expr]) -> Result<Option<u1
 ///
 /// E050: a subject whose values have no patterns, or a pattern that does not fit the subject.
 /// E058: no arm takes any value, and the subject is of no enum or a value of its enum has no arm.
-pub fn case_form(facts: &Facts<'_>, parts: &Cases) -> Result<Judged, Memory>
+pub fn case_form(facts: &Facts<'_, '_>, parts: &Cases) -> Result<Judged, Memory>
     ensures { IfOk result (λ j. judged_of j ≡
         record {
           ty = c.case_type (facts_of facts.now)
@@ -267,7 +267,7 @@ pub fn case_form(facts: &Facts<'_>, parts: &Cases) -> Result<Judged, Memory>
 /// The pattern `E.v` at this node.
 ///
 /// E056: E is no enum, or has no value v.
-pub fn enum_pattern(facts: &Facts<'_>, node: u32, value: &[u8]) -> Judged
+pub fn enum_pattern(facts: &Facts<'_, '_>, node: u32, value: &[u8]) -> Judged
     ensures { judged_of result ≡
         record {
           ty = value_type (facts_of facts.now) (named_ref (facts_of facts.now) node)
@@ -285,7 +285,7 @@ pub fn enum_pattern(facts: &Facts<'_>, node: u32, value: &[u8]) -> Judged
     )
 }
 
-fn value_type(facts: &Facts<'_>, named: Option<Ref>, value: &[u8]) -> Ty
+fn value_type(facts: &Facts<'_, '_>, named: Option<Ref>, value: &[u8]) -> Ty
     ensures { ty_of result ≡ value_type (facts_of facts.now) named value.now }
 {
     match named {
@@ -300,7 +300,7 @@ fn type_if(is_value: bool, of: u32) -> Ty
     if is_value { Ty::Enum(of) } else { Ty::Never }
 }
 
-fn is_enum_value(facts: &Facts<'_>, named: Option<Ref>, value: &[u8]) -> bool
+fn is_enum_value(facts: &Facts<'_, '_>, named: Option<Ref>, value: &[u8]) -> bool
     ensures { result ≡ is_enum_value (facts_of facts.now) named value.now }
 {
     match named {

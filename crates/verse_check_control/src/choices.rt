@@ -13,7 +13,7 @@ use verse_tree::exprs::IfParts;
 use verse_tree::tables::Ty;
 
 /// An `if`: the join of both parts, and void where there is no other one.
-pub fn choice(facts: &Facts<'_>, parts: &IfParts) -> Result<Ty, Memory>
+pub fn choice(facts: &Facts<'_, '_>, parts: &IfParts) -> Result<Ty, Memory>
     ensures { IfOk result (λ t. ty_of t ≡ choice_type (facts_of facts.now) (if_of parts.now).taken
         (if_of parts.now).otherwise) }
 {

@@ -30,7 +30,7 @@ fn is_domain(ty: &Ty) -> bool
     matches!(ty, Ty::Array(_) | Ty::Map(_) | Ty::Never)
 }
 
-fn form_takes(facts: &Facts<'_>, form: &Form) -> bool
+fn form_takes(facts: &Facts<'_, '_>, form: &Form) -> bool
     ensures { result ≡ l.shape_takes (facts_of facts.now) (shape_of form.now) }
 {
     match form {
@@ -41,7 +41,7 @@ fn form_takes(facts: &Facts<'_>, form: &Form) -> bool
     }
 }
 
-fn ends_are_ints(facts: &Facts<'_>, ends: &Two) -> bool
+fn ends_are_ints(facts: &Facts<'_, '_>, ends: &Two) -> bool
     ensures { result ≡ p.are_ints (type_of (facts_of facts.now) (two_of ends.now).0)
         (type_of (facts_of facts.now) (two_of ends.now).1) }
 {
@@ -52,7 +52,7 @@ fn ends_are_ints(facts: &Facts<'_>, ends: &Two) -> bool
 }
 
 /// Whether each generator has a domain, or ints as the ends of its range.
-fn do_all_take(facts: &Facts<'_>, clauses: &[Expr]) -> bool
+fn do_all_take(facts: &Facts<'_, '_>, clauses: &[Expr]) -> bool
     ensures { result ≡ l.all_take (facts_of facts.now) (trees (map tree_of clauses.now)) }
 {
     'clauses: for clause in clauses {
@@ -72,7 +72,7 @@ fn array_of(alloc: Global, content: &Ty) -> Result<Ty, Memory>
 /// A `for`: an array of what its body gives.
 ///
 /// E050: a generator over what is no array and no map, or a range whose ends are no ints.
-pub fn for_form(facts: &Facts<'_>, parts: &ForParts) -> Result<Judged, Memory>
+pub fn for_form(facts: &Facts<'_, '_>, parts: &ForParts) -> Result<Judged, Memory>
     ensures { IfOk result (λ j. judged_of j ≡
         record {
           ty = t.array (type_of (facts_of facts.now) (for_of parts.now).1);
@@ -87,7 +87,7 @@ pub fn for_form(facts: &Facts<'_>, parts: &ForParts) -> Result<Judged, Memory>
 }
 
 /// The `loop` of this node: void where a `break` leaves it, never where none does.
-pub fn loop_form(facts: &Facts<'_>, node: u32) -> Ty
+pub fn loop_form(facts: &Facts<'_, '_>, node: u32) -> Ty
     ensures { ty_of result ≡ loop_type (has_number node (facts_of facts.now).left) }
 {
     if facts.left.has(node) {

@@ -22,7 +22,7 @@ use verse_tree::tables::Ty;
 use verse_tree::types::TyExpr;
 
 /// Whether what is returned fits the result; in the default of a field there is none.
-fn does_fit_result(facts: &Facts<'_>, wanted: Option<&TyExpr>, ty: &Ty) -> Result<bool, Memory>
+fn does_fit_result(facts: &Facts<'_, '_>, wanted: Option<&TyExpr>, ty: &Ty) -> Result<bool, Memory>
     ensures { IfOk result (λ b. b ≡
         fits_result (facts_of facts.now) (option_map now_written wanted.entry) (ty_of ty.now)) }
 {
@@ -35,7 +35,7 @@ fn does_fit_result(facts: &Facts<'_>, wanted: Option<&TyExpr>, ty: &Ty) -> Resul
     }
 }
 
-fn returning(facts: &Facts<'_>, wanted: Option<&TyExpr>, ty: &Ty) -> Result<Judged, Memory>
+fn returning(facts: &Facts<'_, '_>, wanted: Option<&TyExpr>, ty: &Ty) -> Result<Judged, Memory>
     ensures { IfOk result (λ j. judged_of j ≡
         record {
           ty = t.never;
@@ -51,7 +51,7 @@ fn returning(facts: &Facts<'_>, wanted: Option<&TyExpr>, ty: &Ty) -> Result<Judg
 /// A `return` with this value; it gives none itself.
 ///
 /// E050: the value does not fit the result of the function.
-pub fn returned(facts: &Facts<'_>, around: Around<'_>, part: &Expr) -> Result<Judged, Memory>
+pub fn returned(facts: &Facts<'_, '_>, around: Around<'_>, part: &Expr) -> Result<Judged, Memory>
     ensures { IfOk result (λ j. judged_of j ≡
         record {
           ty = t.never;
@@ -66,7 +66,7 @@ pub fn returned(facts: &Facts<'_>, around: Around<'_>, part: &Expr) -> Result<Ju
 /// A `return` without a value.
 ///
 /// E050: void does not fit the result of the function.
-pub fn returned_unit(facts: &Facts<'_>, around: Around<'_>) -> Result<Judged, Memory>
+pub fn returned_unit(facts: &Facts<'_, '_>, around: Around<'_>) -> Result<Judged, Memory>
     ensures { IfOk result (λ j. judged_of j ≡
         record {
           ty = t.never;

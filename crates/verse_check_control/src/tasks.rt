@@ -28,7 +28,7 @@ fn are_too_few(parts: &[Expr]) -> bool
 /// A `sync`: the tuple of its arms.
 ///
 /// E057: fewer than two arms.
-pub fn sync(facts: &Facts<'_>, parts: &[Expr]) -> Result<Judged, Memory>
+pub fn sync(facts: &Facts<'_, '_>, parts: &[Expr]) -> Result<Judged, Memory>
     ensures { IfOk result (λ j. judged_of j ≡
         record {
           ty = t.tuple (p.types_of (facts_of facts.now) (trees (map tree_of parts.now)));
@@ -42,7 +42,7 @@ pub fn sync(facts: &Facts<'_>, parts: &[Expr]) -> Result<Judged, Memory>
 /// A `race` or a `rush`: the join of its arms.
 ///
 /// E057: fewer than two arms.
-pub fn race(facts: &Facts<'_>, parts: &[Expr]) -> Result<Judged, Memory>
+pub fn race(facts: &Facts<'_, '_>, parts: &[Expr]) -> Result<Judged, Memory>
     ensures { IfOk result (λ j. judged_of j ≡
         record {
           ty = p.joined (facts_of facts.now) (trees (map tree_of parts.now));

@@ -30,7 +30,7 @@ use verse_tree::exprs::Form;
 
 /// The type of a form, and the least code of the rules of forms that it breaks.
 pub fn judge_form(
-    facts: &Facts<'_>,
+    facts: &Facts<'_, '_>,
     around: Around<'_>,
     node: u32,
     form: &Form,

@@ -28,7 +28,7 @@ use verse_tree::tables::{Ref, Ty};
 /// value is not what is wanted there.
 #[tactic(auto, using(crate::proofs::Codes::expression_code))]
 fn judge_alone(
-    facts: &Facts<'_>,
+    facts: &Facts<'_, '_>,
     around: Around<'_>,
     node: u32,
     form: &Form,
@@ -41,7 +41,7 @@ fn judge_alone(
 
 /// The type of an expression, and the least rule of types that it breaks.
 pub fn judge_expr(
-    facts: &Facts<'_>,
+    facts: &Facts<'_, '_>,
     around: Around<'_>,
     node: u32,
     form: &Form,
@@ -54,7 +54,7 @@ pub fn judge_expr(
 }
 
 /// The type of an item, which is that of a function's result.
-pub fn judge_item(facts: &Facts<'_>, item: &Item) -> Result<Judged, Memory>
+pub fn judge_item(facts: &Facts<'_, '_>, item: &Item) -> Result<Judged, Memory>
     ensures { IfOk result (λ j. judged_of j ≡
         c.of_type (s.item_type (facts_of facts.now) (item_of item.now))) }
 {
@@ -67,7 +67,7 @@ pub fn judge_item(facts: &Facts<'_>, item: &Item) -> Result<Judged, Memory>
 }
 
 /// The type of a field, or of a method's result.
-pub fn judge_member(facts: &Facts<'_>, member: &Member) -> Result<Judged, Memory>
+pub fn judge_member(facts: &Facts<'_, '_>, member: &Member) -> Result<Judged, Memory>
     ensures { IfOk result (λ j. judged_of j ≡
         c.of_type (s.member_type (facts_of facts.now) (member_of member.now))) }
 {
@@ -78,7 +78,7 @@ pub fn judge_member(facts: &Facts<'_>, member: &Member) -> Result<Judged, Memory
 }
 
 /// The type of a parameter.
-pub fn judge_param(facts: &Facts<'_>, param: &Param) -> Result<Judged, Memory>
+pub fn judge_param(facts: &Facts<'_, '_>, param: &Param) -> Result<Judged, Memory>
     ensures { IfOk result (λ j. judged_of j ≡
         c.of_type (rows.spelled (facts_of facts.now) (param_of param.now).written)) }
 {
@@ -86,14 +86,14 @@ pub fn judge_param(facts: &Facts<'_>, param: &Param) -> Result<Judged, Memory>
 }
 
 /// The type for which the name at this node stands.
-pub fn judge_name(facts: &Facts<'_>, node: u32) -> Judged
+pub fn judge_name(facts: &Facts<'_, '_>, node: u32) -> Judged
     ensures { judged_of result ≡ c.of_type (named_type (f.named_ref (facts_of facts.now) node)) }
 {
     judge_type(named_type(facts.named_ref(node)))
 }
 
 /// What an expression refers to; a member is found by the type of its object.
-pub fn form_ref(facts: &Facts<'_>, node: u32, form: &Form) -> Result<Option<Ref>, Memory>
+pub fn form_ref(facts: &Facts<'_, '_>, node: u32, form: &Form) -> Result<Option<Ref>, Memory>
     ensures { IfOk result (λ r. r ≡ s.shape_ref (facts_of facts.now) node (shape_of form.now)) }
 {
     match form {

@@ -36,7 +36,7 @@ use verse_tree::tables::Ty;
 use verse_tree::types::TyExpr;
 
 /// What has the type of its part.
-pub fn same_type(facts: &Facts<'_>, part: &Expr) -> Result<Judged, Memory>
+pub fn same_type(facts: &Facts<'_, '_>, part: &Expr) -> Result<Judged, Memory>
     ensures { IfOk result (λ j. judged_of j ≡
         record { ty = type_of (facts_of facts.now) (tree_of part.now); code = None }) }
 {
@@ -44,7 +44,7 @@ pub fn same_type(facts: &Facts<'_>, part: &Expr) -> Result<Judged, Memory>
 }
 
 /// What has the type of the last of its parts.
-pub fn last_type(facts: &Facts<'_>, parts: &[Expr]) -> Result<Judged, Memory>
+pub fn last_type(facts: &Facts<'_, '_>, parts: &[Expr]) -> Result<Judged, Memory>
     ensures { IfOk result (λ j. judged_of j ≡
         record {
           ty = p.last_type (facts_of facts.now) (trees (map tree_of parts.now));
@@ -56,7 +56,7 @@ pub fn last_type(facts: &Facts<'_>, parts: &[Expr]) -> Result<Judged, Memory>
 }
 
 /// A definition with a type.
-pub fn typed(facts: &Facts<'_>, typed: &TypedValue) -> Result<Judged, Memory>
+pub fn typed(facts: &Facts<'_, '_>, typed: &TypedValue) -> Result<Judged, Memory>
     ensures { IfOk result (λ j. judged_of j ≡
         record {
           ty = rows.spelled (facts_of facts.now) (typed_value_of typed.now).0;
@@ -68,7 +68,7 @@ pub fn typed(facts: &Facts<'_>, typed: &TypedValue) -> Result<Judged, Memory>
 }
 
 /// An arm of a `case`, which has the type of its body.
-pub fn arm(facts: &Facts<'_>, two: &Two) -> Result<Judged, Memory>
+pub fn arm(facts: &Facts<'_, '_>, two: &Two) -> Result<Judged, Memory>
     ensures { IfOk result (λ j. judged_of j ≡
         record { ty = type_of (facts_of facts.now) (two_of two.now).1; code = None }) }
 {
@@ -83,7 +83,7 @@ pub fn text(alloc: Global) -> Result<Judged, Memory>
 }
 
 /// A tuple.
-pub fn tuple(facts: &Facts<'_>, parts: &[Expr]) -> Result<Judged, Memory>
+pub fn tuple(facts: &Facts<'_, '_>, parts: &[Expr]) -> Result<Judged, Memory>
     ensures { IfOk result (λ j. judged_of j ≡
         record {
           ty = t.tuple (p.types_of (facts_of facts.now) (trees (map tree_of parts.now)));
@@ -94,7 +94,7 @@ pub fn tuple(facts: &Facts<'_>, parts: &[Expr]) -> Result<Judged, Memory>
 }
 
 /// `array{..}`.
-pub fn array(facts: &Facts<'_>, parts: &[Expr]) -> Result<Judged, Memory>
+pub fn array(facts: &Facts<'_, '_>, parts: &[Expr]) -> Result<Judged, Memory>
     ensures { IfOk result (λ j. judged_of j ≡
         record {
           ty = t.array (p.joined (facts_of facts.now) (trees (map tree_of parts.now)));
@@ -105,7 +105,7 @@ pub fn array(facts: &Facts<'_>, parts: &[Expr]) -> Result<Judged, Memory>
 }
 
 /// `option{..}`.
-pub fn option(facts: &Facts<'_>, parts: &[Expr]) -> Result<Judged, Memory>
+pub fn option(facts: &Facts<'_, '_>, parts: &[Expr]) -> Result<Judged, Memory>
     ensures { IfOk result (λ j. judged_of j ≡
         record {
           ty = t.option (p.last_type (facts_of facts.now) (trees (map tree_of parts.now)));
@@ -116,7 +116,7 @@ pub fn option(facts: &Facts<'_>, parts: &[Expr]) -> Result<Judged, Memory>
 }
 
 /// `map{..}`.
-pub fn mapping(facts: &Facts<'_>, parts: &[Pair]) -> Result<Judged, Memory>
+pub fn mapping(facts: &Facts<'_, '_>, parts: &[Pair]) -> Result<Judged, Memory>
     ensures { IfOk result (λ j. judged_of j ≡
         record {
           ty = t.mapping (p.keys_from (facts_of facts.now) t.never
@@ -137,7 +137,7 @@ pub fn bare_event(alloc: Global) -> Result<Judged, Memory>
 }
 
 /// `event(t){}`.
-pub fn event(facts: &Facts<'_>, ty: &TyExpr) -> Result<Judged, Memory>
+pub fn event(facts: &Facts<'_, '_>, ty: &TyExpr) -> Result<Judged, Memory>
     ensures { IfOk result (λ j. judged_of j ≡
         record {
           ty = t.event (rows.spelled (facts_of facts.now) (written_of ty.now));
@@ -150,7 +150,7 @@ pub fn event(facts: &Facts<'_>, ty: &TyExpr) -> Result<Judged, Memory>
 }
 
 /// `X : E` or `K -> V : E` in a `for`.
-pub fn content(facts: &Facts<'_>, domain: &Expr) -> Result<Judged, Memory>
+pub fn content(facts: &Facts<'_, '_>, domain: &Expr) -> Result<Judged, Memory>
     ensures { IfOk result (λ j. judged_of j ≡
         record {
           ty = content_of (type_of (facts_of facts.now) (tree_of domain.now));
@@ -165,7 +165,7 @@ pub fn content(facts: &Facts<'_>, domain: &Expr) -> Result<Judged, Memory>
 /// An `if`.
 #[tactic(auto, using(verse_check_control::proofs::Chosen::choice_formed))]
 pub fn if_form(
-    facts: &Facts<'_>,
+    facts: &Facts<'_, '_>,
     around: Around<'_>,
     node: u32,
     parts: &IfParts,
@@ -179,7 +179,7 @@ pub fn if_form(
 }
 
 /// `Self`.
-pub fn this(facts: &Facts<'_>, node: u32) -> Result<Judged, Memory>
+pub fn this(facts: &Facts<'_, '_>, node: u32) -> Result<Judged, Memory>
     ensures { IfOk result (λ j. judged_of j ≡
         record { ty = rows.class_type (named_ref (facts_of facts.now) node); code = None }) }
 {
@@ -187,7 +187,7 @@ pub fn this(facts: &Facts<'_>, node: u32) -> Result<Judged, Memory>
 }
 
 /// `-E`.
-pub fn negative(facts: &Facts<'_>, part: &Expr) -> Result<Judged, Memory>
+pub fn negative(facts: &Facts<'_, '_>, part: &Expr) -> Result<Judged, Memory>
     ensures { IfOk result (λ j. judged_of j ≡
         record {
           ty = t.int;
@@ -200,7 +200,7 @@ pub fn negative(facts: &Facts<'_>, part: &Expr) -> Result<Judged, Memory>
 }
 
 /// A `loop`.
-pub fn repeated(facts: &Facts<'_>, node: u32) -> Result<Judged, Memory>
+pub fn repeated(facts: &Facts<'_, '_>, node: u32) -> Result<Judged, Memory>
     ensures { IfOk result (λ j. judged_of j ≡
         record { ty = rows.loop_type (has_number node (facts_of facts.now).left); code = None }) }
 {
@@ -208,7 +208,7 @@ pub fn repeated(facts: &Facts<'_>, node: u32) -> Result<Judged, Memory>
 }
 
 /// The pattern `E.v`.
-pub fn value_pattern(facts: &Facts<'_>, node: u32, value: &[u8]) -> Result<Judged, Memory>
+pub fn value_pattern(facts: &Facts<'_, '_>, node: u32, value: &[u8]) -> Result<Judged, Memory>
     ensures { IfOk result (λ j. judged_of j ≡
         record {
           ty = rows.value_type (facts_of facts.now) (named_ref (facts_of facts.now) node)
@@ -223,7 +223,7 @@ pub fn value_pattern(facts: &Facts<'_>, node: u32, value: &[u8]) -> Result<Judge
 }
 
 /// `c{F := E}`.
-pub fn made(facts: &Facts<'_>, node: u32, parts: &Items<Given>) -> Result<Judged, Memory>
+pub fn made(facts: &Facts<'_, '_>, node: u32, parts: &Items<Given>) -> Result<Judged, Memory>
     ensures { IfOk result (λ j. judged_of j ≡
         made_by (facts_of facts.now) node (givens (map given_of parts.now))) }
 {

@@ -22,7 +22,7 @@ use verse_rules_walk::arounds::Used;
 use verse_tree::tables::Ty;
 use verse_tree::types::TyExpr;
 
-fn does_fit_written(facts: &Facts<'_>, ty: &Ty, written: &TyExpr) -> Result<bool, Memory>
+fn does_fit_written(facts: &Facts<'_, '_>, ty: &Ty, written: &TyExpr) -> Result<bool, Memory>
     ensures { IfOk result (λ b. b ≡ fits (classes (facts_of facts.now)) (ty_of ty.now)
         (rows.spelled (facts_of facts.now) (written_of written.now))) }
 {
@@ -31,7 +31,7 @@ fn does_fit_written(facts: &Facts<'_>, ty: &Ty, written: &TyExpr) -> Result<bool
 }
 
 /// The types of the parameters of what the node with this number stands for.
-fn params_at<'a>(facts: &Facts<'a>, callee: u32) -> &'a [Ty]
+fn params_at<'a>(facts: &Facts<'a, '_>, callee: u32) -> &'a [Ty]
     ensures { result.now ≡ s.params_at (facts_of facts.now) callee }
 {
     match function_by(facts.world.names, facts.ref_of(callee)) {
@@ -40,7 +40,7 @@ fn params_at<'a>(facts: &Facts<'a>, callee: u32) -> &'a [Ty]
     }
 }
 
-fn does_fit_param(facts: &Facts<'_>, ty: &Ty, param: Option<&Ty>) -> bool
+fn does_fit_param(facts: &Facts<'_, '_>, ty: &Ty, param: Option<&Ty>) -> bool
     ensures { result ≡ s.fits_param (facts_of facts.now) (ty_of ty.now)
         (option_copied param.entry) }
 {
@@ -50,7 +50,7 @@ fn does_fit_param(facts: &Facts<'_>, ty: &Ty, param: Option<&Ty>) -> bool
     }
 }
 
-fn does_serve(facts: &Facts<'_>, used: Used<'_>, ty: &Ty) -> Result<bool, Memory>
+fn does_serve(facts: &Facts<'_, '_>, used: Used<'_>, ty: &Ty) -> Result<bool, Memory>
     ensures { IfOk result (λ b. b ≡ s.serves (facts_of facts.now) (used_of used.entry)
         (ty_of ty.now)) }
 {
@@ -78,7 +78,7 @@ fn served(serves: bool, found: Judged) -> Judged
 }
 
 /// What is found of a value that is used so.
-pub fn serve(facts: &Facts<'_>, used: Used<'_>, found: Judged) -> Result<Judged, Memory>
+pub fn serve(facts: &Facts<'_, '_>, used: Used<'_>, found: Judged) -> Result<Judged, Memory>
     ensures { IfOk result (λ j. judged_of j ≡ c.of_used (facts_of facts.now) (used_of used.entry)
         (judged_of found)) }
 {

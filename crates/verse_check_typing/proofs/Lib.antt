@@ -1,3 +1,4 @@
+pub mod MoreNames
 mod InSets
 mod InTurn
 mod Nothing

@@ -101,7 +101,7 @@ fn action_of<'a>(object: &'a Ty, name: &[u8], ty: &'a Ty) -> Callee<'a>
     }
 }
 
-fn form_callee<'a>(facts: &Facts<'a>, form: &Form, ty: &'a Ty) -> Callee<'a>
+fn form_callee<'a>(facts: &Facts<'a, '_>, form: &Form, ty: &'a Ty) -> Callee<'a>
     ensures { callee_of result ≡ c.shape_callee (facts_of facts.now) (shape_of form.now)
         (ty_of ty.now) }
 {
@@ -111,7 +111,7 @@ fn form_callee<'a>(facts: &Facts<'a>, form: &Form, ty: &'a Ty) -> Callee<'a>
     }
 }
 
-fn callee_by<'a>(facts: &Facts<'a>, what: Ref, form: &Form, ty: &'a Ty) -> Callee<'a>
+fn callee_by<'a>(facts: &Facts<'a, '_>, what: Ref, form: &Form, ty: &'a Ty) -> Callee<'a>
     ensures { callee_of result ≡ c.callee_by (facts_of facts.now) (Some what) (shape_of form.now)
         (ty_of ty.now) }
 {
@@ -122,7 +122,7 @@ fn callee_by<'a>(facts: &Facts<'a>, what: Ref, form: &Form, ty: &'a Ty) -> Calle
 }
 
 /// What a tree means where it is called or indexed.
-pub fn make_callee<'a>(facts: &Facts<'a>, callee: &Expr) -> Callee<'a>
+pub fn make_callee<'a>(facts: &Facts<'a, '_>, callee: &Expr) -> Callee<'a>
     ensures { callee_of result ≡ c.callee_of (facts_of facts.now) (tree_of callee.now) }
 {
     let ty = facts.type_at(callee.node);

@@ -17,20 +17,20 @@ use verse_tree::tables::{ClassInfo, FieldInfo, Ref, Ty};
 
 /// The tables of a program, with what was found at the nodes before this one, by their numbers.
 #[derive(Clone, Copy)]
-pub struct Facts<'a> {
-    pub world: &'a World<'a>,
-    pub types: &'a [Ty],
+pub struct Facts<'w, 'a> {
+    pub world: &'w World<'w, 'a>,
+    pub types: &'w [Ty],
     /// What they refer to, members among them.
-    pub refs: &'a [Option<Ref>],
+    pub refs: &'w [Option<Ref>],
     /// Whether they define variables.
-    pub vars: &'a [bool],
+    pub vars: &'w [bool],
     /// The loops that a `break` among them leaves.
-    pub left: &'a NumberSet,
+    pub left: &'w NumberSet,
 }
 
-impl<'a> Facts<'a> {
+impl<'w, 'a> Facts<'w, 'a> {
     /// The classes of the program.
-    pub fn classes(&self) -> &'a [ClassInfo]
+    pub fn classes(&self) -> &'w [ClassInfo]
         ensures { result.now ≡ self.now.world.now.names.now.classes }
     {
         self.world.names.classes.as_slice()
@@ -52,7 +52,7 @@ impl<'a> Facts<'a> {
 
     /// The type of the node with this number.
     #[tactic(auto, using(crate::proofs::Nothing::never_of))]
-    pub fn type_at(&self, node: u32) -> &'a Ty
+    pub fn type_at(&self, node: u32) -> &'w Ty
         ensures { ty_of result.now ≡ f.type_at (facts_of self.now).types node }
     {
         match self.types.get(node as usize) {
@@ -62,7 +62,7 @@ impl<'a> Facts<'a> {
     }
 
     /// The type of a part.
-    pub fn type_of(&self, part: &Expr) -> &'a Ty
+    pub fn type_of(&self, part: &Expr) -> &'w Ty
         ensures { ty_of result.now ≡ f.type_of (facts_of self.now) (tree_of part.now) }
     {
         self.type_at(part.node)
@@ -79,7 +79,7 @@ impl<'a> Facts<'a> {
     }
 
     /// The field of a class at a place.
-    pub fn field_at(&self, class: u32, place: u32) -> Option<&'a FieldInfo>
+    pub fn field_at(&self, class: u32, place: u32) -> Option<&'w FieldInfo>
         ensures { option_copied result ≡ slice_get (m.fields_of (facts_of self.now) class) place }
     {
         match self.classes().get(class as usize) {

@@ -7,6 +7,8 @@
 //! numbers; `worlds`, the tables of a program; `facts`, what is known at a node; `spelling`,
 //! written types; `keys`, types whose maps have keys; `callees`, what is called; `judged`, a type
 //! with the rule that is broken; `parts`, the types of several parts.
+//!
+//! The public lemmas, which crates above cite, are those of `proofs/MoreNames`.
 #![tactic(auto)]
 
 pub mod builtins;

@@ -47,7 +47,7 @@ pub fn count(parts: &[Expr]) -> usize
 }
 
 /// The type of the first part.
-pub fn first_type<'a>(facts: &Facts<'a>, parts: &[Expr]) -> Option<&'a Ty>
+pub fn first_type<'a>(facts: &Facts<'a, '_>, parts: &[Expr]) -> Option<&'a Ty>
     ensures { option_map ty_of (option_copied result) ≡
         p.first_from (facts_of facts.now) (trees (map tree_of parts.now)) }
 {
@@ -58,7 +58,7 @@ pub fn first_type<'a>(facts: &Facts<'a>, parts: &[Expr]) -> Option<&'a Ty>
 }
 
 /// The type of the second part.
-pub fn second_type<'a>(facts: &Facts<'a>, parts: &[Expr]) -> Option<&'a Ty>
+pub fn second_type<'a>(facts: &Facts<'a, '_>, parts: &[Expr]) -> Option<&'a Ty>
     ensures { option_map ty_of (option_copied result) ≡
         p.second_from (facts_of facts.now) (trees (map tree_of parts.now)) }
 {
@@ -69,7 +69,7 @@ pub fn second_type<'a>(facts: &Facts<'a>, parts: &[Expr]) -> Option<&'a Ty>
 }
 
 /// The join of the types of the parts, which is never where there are none.
-pub fn joined(facts: &Facts<'_>, parts: &[Expr]) -> Result<Ty, Memory>
+pub fn joined(facts: &Facts<'_, '_>, parts: &[Expr]) -> Result<Ty, Memory>
     ensures { IfOk result (λ s. ty_of s ≡
         p.joined (facts_of facts.now) (trees (map tree_of parts.now))) }
 {
@@ -82,14 +82,14 @@ pub fn joined(facts: &Facts<'_>, parts: &[Expr]) -> Result<Ty, Memory>
 }
 
 #[tactic(auto, using(crate::proofs::InTurn::types_map))]
-fn types_of(facts: &Facts<'_>, parts: &[Expr]) -> Result<Items<Ty>, Memory>
+fn types_of(facts: &Facts<'_, '_>, parts: &[Expr]) -> Result<Items<Ty>, Memory>
     ensures { IfOk result (λ ts. tys (map ty_of ts) ≡
         p.types_of (facts_of facts.now) (trees (map tree_of parts.now))) }
 {
     each_type(facts, parts)
 }
 
-fn each_type(facts: &Facts<'_>, parts: &[Expr]) -> Result<Items<Ty>, Memory>
+fn each_type(facts: &Facts<'_, '_>, parts: &[Expr]) -> Result<Items<Ty>, Memory>
     ensures { IfOk result (λ ts. map ty_of ts ≡
         map (type_of (facts_of facts.now)) (map tree_of parts.now)) }
 {
@@ -102,7 +102,7 @@ fn each_type(facts: &Facts<'_>, parts: &[Expr]) -> Result<Items<Ty>, Memory>
 }
 
 /// A tuple, and what `sync` gives.
-pub fn tuple(facts: &Facts<'_>, parts: &[Expr]) -> Result<Ty, Memory>
+pub fn tuple(facts: &Facts<'_, '_>, parts: &[Expr]) -> Result<Ty, Memory>
     ensures { IfOk result (λ s. ty_of s ≡
         t.tuple (p.types_of (facts_of facts.now) (trees (map tree_of parts.now)))) }
 {
@@ -120,7 +120,7 @@ fn last_number(parts: &[Expr]) -> Option<u32>
 }
 
 /// The type of the last part, and void where there is none.
-pub fn last_type(facts: &Facts<'_>, parts: &[Expr]) -> Result<Ty, Memory>
+pub fn last_type(facts: &Facts<'_, '_>, parts: &[Expr]) -> Result<Ty, Memory>
     ensures { IfOk result (λ s. ty_of s ≡
         p.last_type (facts_of facts.now) (trees (map tree_of parts.now))) }
 {

@@ -90,7 +90,7 @@ fn each_spelled(alloc: Global, refs: &[Option<Ref>], parts: &[TyExpr]) -> Result
 }
 
 /// The type that is spelled.
-pub fn spelled(facts: &Facts<'_>, ty: &TyExpr) -> Result<Ty, Memory>
+pub fn spelled(facts: &Facts<'_, '_>, ty: &TyExpr) -> Result<Ty, Memory>
     ensures { IfOk result (λ t. ty_of t ≡ rows.spelled (facts_of facts.now) (written_of ty.now)) }
 {
     spelled_by(facts.world.alloc, facts.world.names.refs.as_slice(), ty)

@@ -11,13 +11,13 @@ use verse_tree::tables::{Names, Ty};
 
 /// The tables of a program.
 #[derive(Drop)]
-pub struct World<'a> {
+pub struct World<'w, 'a> {
     pub alloc: Global,
-    pub names: &'a Names,
+    pub names: &'w Names,
     /// The names of the members of each class.
-    pub members: &'a [Members<'a>],
+    pub members: &'w [Members<'a>],
     /// The names of the values of each enum.
-    pub values: &'a [NameSet<'a>],
+    pub values: &'w [NameSet<'w>],
     /// The type of a node that has none.
     pub missing: Ty,
     ghost no_type: { is_never (ty_of missing) ≡ true },

@@ -30,7 +30,7 @@ fn has_text(classes: &[ClassInfo], text: &Ty, ty: &Ty) -> bool
         || does_fit(classes, ty, text)
 }
 
-fn have_texts(facts: &Facts<'_>, text: &Ty, parts: &[Hole]) -> bool
+fn have_texts(facts: &Facts<'_, '_>, text: &Ty, parts: &[Hole]) -> bool
     requires { ty_of text.now ≡ t.string }
     ensures { result ≡ p.have_texts (facts_of facts.now) (holes (map hole_of parts.now)) }
 {
@@ -43,7 +43,7 @@ fn have_texts(facts: &Facts<'_>, text: &Ty, parts: &[Hole]) -> bool
 }
 
 /// A text with holes.
-pub fn text_with_holes(facts: &Facts<'_>, parts: &[Hole]) -> Result<Judged, Memory>
+pub fn text_with_holes(facts: &Facts<'_, '_>, parts: &[Hole]) -> Result<Judged, Memory>
     ensures { IfOk result (λ j. judged_of j ≡
         record {
           ty = t.string;
@@ -58,7 +58,7 @@ pub fn text_with_holes(facts: &Facts<'_>, parts: &[Hole]) -> Result<Judged, Memo
 }
 
 /// `array{..}`.
-pub fn array(facts: &Facts<'_>, parts: &[Expr]) -> Result<Ty, Memory>
+pub fn array(facts: &Facts<'_, '_>, parts: &[Expr]) -> Result<Ty, Memory>
     ensures { IfOk result (λ s. ty_of s ≡
         t.array (p.joined (facts_of facts.now) (trees (map tree_of parts.now)))) }
 {
@@ -66,7 +66,7 @@ pub fn array(facts: &Facts<'_>, parts: &[Expr]) -> Result<Ty, Memory>
     Ok(Ty::Array(Boxed::new(facts.world.alloc, content)?))
 }
 
-fn keys(facts: &Facts<'_>, parts: &[Pair]) -> Result<Ty, Memory>
+fn keys(facts: &Facts<'_, '_>, parts: &[Pair]) -> Result<Ty, Memory>
     ensures { IfOk result (λ s. ty_of s ≡ p.keys_from (facts_of facts.now) t.never
         (pairs (map pair_of parts.now))) }
 {
@@ -78,7 +78,7 @@ fn keys(facts: &Facts<'_>, parts: &[Pair]) -> Result<Ty, Memory>
     Ok(ty)
 }
 
-fn values(facts: &Facts<'_>, parts: &[Pair]) -> Result<Ty, Memory>
+fn values(facts: &Facts<'_, '_>, parts: &[Pair]) -> Result<Ty, Memory>
     ensures { IfOk result (λ s. ty_of s ≡ p.values_from (facts_of facts.now) t.never
         (pairs (map pair_of parts.now))) }
 {
@@ -91,7 +91,7 @@ fn values(facts: &Facts<'_>, parts: &[Pair]) -> Result<Ty, Memory>
 }
 
 /// `map{..}`.
-pub fn mapping(facts: &Facts<'_>, parts: &[Pair]) -> Result<Ty, Memory>
+pub fn mapping(facts: &Facts<'_, '_>, parts: &[Pair]) -> Result<Ty, Memory>
     ensures { IfOk result (λ s. ty_of s ≡
         t.mapping (p.keys_from (facts_of facts.now) t.never (pairs (map pair_of parts.now)))
         (p.values_from (facts_of facts.now) t.never (pairs (map pair_of parts.now)))) }

@@ -120,7 +120,7 @@ fn is_round_builtin(builtin: Option<Builtin>) -> bool
 }
 
 /// Whether a node is an argument of `Floor` or `Ceil`.
-fn is_rounded(facts: &Facts<'_>, used: Used<'_>) -> bool
+fn is_rounded(facts: &Facts<'_, '_>, used: Used<'_>) -> bool
     ensures { result ≡ r.is_rounded (facts_of facts.now) (used_of used.entry) }
 {
     match used {
@@ -130,7 +130,7 @@ fn is_rounded(facts: &Facts<'_>, used: Used<'_>) -> bool
 }
 
 fn chain_code(
-    facts: &Facts<'_>,
+    facts: &Facts<'_, '_>,
     used: Used<'_>,
     operator: Operator,
     left: &Ty,
@@ -152,7 +152,7 @@ fn chain_code(
 
 /// `E or F`, `E and F`, `E + F`, `E - F`, `E * F`, `E / F`.
 pub fn chain(
-    facts: &Facts<'_>,
+    facts: &Facts<'_, '_>,
     used: Used<'_>,
     operator: Operator,
     two: &Two,
@@ -203,7 +203,7 @@ fn have_equality(
     Ok(is_comparable(classes, &joined))
 }
 
-fn equality(facts: &Facts<'_>, left: &Ty, right: &Ty) -> Result<Judged, Memory>
+fn equality(facts: &Facts<'_, '_>, left: &Ty, right: &Ty) -> Result<Judged, Memory>
     ensures { IfOk result (λ j. judged_of j ≡
         record {
           ty = ty_of left.now;
@@ -219,7 +219,11 @@ fn equality(facts: &Facts<'_>, left: &Ty, right: &Ty) -> Result<Judged, Memory>
 }
 
 /// `E = F`, `E <> F`, `E < F`, `E <= F`, `E > F`, `E >= F`.
-pub fn comparison(facts: &Facts<'_>, comparison: Comparison, two: &Two) -> Result<Judged, Memory>
+pub fn comparison(
+    facts: &Facts<'_, '_>,
+    comparison: Comparison,
+    two: &Two,
+) -> Result<Judged, Memory>
     ensures { IfOk result (λ j. judged_of j ≡
         record {
           ty = p.compared_type comparison (type_of (facts_of facts.now) (two_of two.now).0);
@@ -242,7 +246,7 @@ pub fn comparison(facts: &Facts<'_>, comparison: Comparison, two: &Two) -> Resul
 }
 
 /// `-E`.
-pub fn minus(facts: &Facts<'_>, part: &Expr) -> Judged
+pub fn minus(facts: &Facts<'_, '_>, part: &Expr) -> Judged
     ensures { judged_of result ≡
         record {
           ty = t.int;
@@ -286,7 +290,7 @@ fn can_assign(classes: &[ClassInfo], assign: Assign, place: &Ty, value: &Ty) -> 
 
 /// What `set` gives for a place of one type and a value of another, and whether it can.
 pub fn assigned(
-    facts: &Facts<'_>,
+    facts: &Facts<'_, '_>,
     assign: Assign,
     place: &Ty,
     value: &Ty,

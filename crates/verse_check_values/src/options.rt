@@ -21,7 +21,7 @@ use verse_tree::exprs::Expr;
 use verse_tree::tables::Ty;
 
 /// `option{..}`.
-pub fn option(facts: &Facts<'_>, parts: &[Expr]) -> Result<Ty, Memory>
+pub fn option(facts: &Facts<'_, '_>, parts: &[Expr]) -> Result<Ty, Memory>
     ensures { IfOk result (λ s. ty_of s ≡
         t.option (p.last_type (facts_of facts.now) (trees (map tree_of parts.now)))) }
 {
@@ -46,7 +46,7 @@ fn queried_type(alloc: Global, ty: &Ty) -> Result<Ty, Memory>
 }
 
 /// `E?`.
-pub fn query(facts: &Facts<'_>, part: &Expr) -> Result<Judged, Memory>
+pub fn query(facts: &Facts<'_, '_>, part: &Expr) -> Result<Judged, Memory>
     ensures { IfOk result (λ j. judged_of j ≡
         record {
           ty = p.queried_type (type_of (facts_of facts.now) (tree_of part.now));

@@ -18,7 +18,7 @@ use verse_check_typing::judged::Judged;
 use verse_tree::exprs::{Assign, Expr, Form, Two};
 use verse_tree::tables::Ref;
 
-fn is_var_field(facts: &Facts<'_>, class: u32, place: u32) -> bool
+fn is_var_field(facts: &Facts<'_, '_>, class: u32, place: u32) -> bool
     ensures { result ≡ m.is_var_field (facts_of facts.now) class place }
 {
     match facts.field_at(class, place) {
@@ -27,7 +27,7 @@ fn is_var_field(facts: &Facts<'_>, class: u32, place: u32) -> bool
     }
 }
 
-fn is_variable(facts: &Facts<'_>, what: Option<Ref>) -> bool
+fn is_variable(facts: &Facts<'_, '_>, what: Option<Ref>) -> bool
     ensures { result ≡ r.is_variable (facts_of facts.now) what }
 {
     match what {
@@ -39,14 +39,14 @@ fn is_variable(facts: &Facts<'_>, what: Option<Ref>) -> bool
 
 /// Whether a tree is a variable, a `var` field, or an index path from one.
 #[cycle(set)]
-fn can_be_set(facts: &Facts<'_>, target: &Expr) -> bool
+fn can_be_set(facts: &Facts<'_, '_>, target: &Expr) -> bool
     ensures { result ≡ r.can_be_set (facts_of facts.now) (tree_of target.now) }
 {
     can_form_be_set(facts, target.node, &target.form)
 }
 
 #[cycle(set)]
-fn can_form_be_set(facts: &Facts<'_>, node: u32, form: &Form) -> bool
+fn can_form_be_set(facts: &Facts<'_, '_>, node: u32, form: &Form) -> bool
     ensures { result ≡ r.can_shape_be_set (facts_of facts.now) node (shape_of form.now) }
 {
     match form {
@@ -57,7 +57,7 @@ fn can_form_be_set(facts: &Facts<'_>, node: u32, form: &Form) -> bool
     }
 }
 
-fn is_item_name(facts: &Facts<'_>, node: u32, form: &Form) -> bool
+fn is_item_name(facts: &Facts<'_, '_>, node: u32, form: &Form) -> bool
     ensures { result ≡ r.is_item_name (facts_of facts.now) node (shape_of form.now) }
 {
     match form {
@@ -67,14 +67,14 @@ fn is_item_name(facts: &Facts<'_>, node: u32, form: &Form) -> bool
 }
 
 /// Whether a tree is the name of what has no type.
-fn is_item(facts: &Facts<'_>, target: &Expr) -> bool
+fn is_item(facts: &Facts<'_, '_>, target: &Expr) -> bool
     ensures { result ≡ r.is_item (facts_of facts.now) (tree_of target.now) }
 {
     is_item_name(facts, target.node, &target.form)
 }
 
 /// `set P = E` and its kin.
-pub fn assignment(facts: &Facts<'_>, assign: Assign, two: &Two) -> Result<Judged, Memory>
+pub fn assignment(facts: &Facts<'_, '_>, assign: Assign, two: &Two) -> Result<Judged, Memory>
     ensures { IfOk result (λ j. judged_of j ≡
         record {
           ty = p.assigned_type (classes (facts_of facts.now)) assign
@@ -97,7 +97,7 @@ pub fn assignment(facts: &Facts<'_>, assign: Assign, two: &Two) -> Result<Judged
     Ok(Judged { ty, code })
 }
 
-fn assignment_code(facts: &Facts<'_>, target: &Expr, can: bool) -> Option<u16>
+fn assignment_code(facts: &Facts<'_, '_>, target: &Expr, can: bool) -> Option<u16>
     ensures { result ≡ cond (not (r.is_item (facts_of facts.now) (tree_of target.now)) && not can)
         (Some TYPES_DIFFER) (cond (not (r.can_be_set (facts_of facts.now) (tree_of target.now)))
         (Some UNSETTABLE) None) }

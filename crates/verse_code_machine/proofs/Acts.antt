@@ -1,11 +1,12 @@
 -- Each operation makes the machine lighter, or a step is spent.
 use Rattle.std.proofs.Common.{◌≡◌, ℕ, zero, suc, length, ◌+◌, ◌*◌, ◌-◌, ◌<◌, ◌≤◌, List, [], ◌∷◌, Option, Some, None, Bool, true, false}
 use Rattle.std.proofs.Common.{cond, nat_lt, refl, sym, subst, arith}
-use Rattle.std.specs.Prelude.{pos, not, ◌&&◌, slice_get}
+use Rattle.std.specs.Prelude.{pos, not, slice_get}
 use Rattle.std.proofs.Math.Nat.{mul-le-mul_left}
 use Rattle.std.proofs.lemmas.Bool.{ltb-true}
 use Rattle.verse_base.specs.declared.places.Place.{Place}
 use Rattle.verse_base.specs.declared.refusals.Kind.{Kind as Error}
+use Rattle.verse_base.proofs.Facts.{and_first}
 use Rattle.verse_code.specs.declared.operations.Op.{Op}
 use Rattle.verse_code.specs.declared.operations.Op.TheVariants as o
 use Rattle.verse_code.specs.declared.codes.Func.{Func}
@@ -14,21 +15,22 @@ use Rattle.verse_code.specs.declared.codes.Code.{Code}
 use Rattle.verse_code.specs.Operations.{operands_of}
 use Rattle.verse_code.specs.Validity.{sizes_of, all_suit}
 use Rattle.verse_value.specs.Val.{Val, unit, falsity, truth, int, char, enum, object, event, task, some, array, mapping, tuple}
-use Rattle.verse_value.specs.Keys.{bytes_of}
 use Rattle.verse_value.specs.Store.{Store}
 use Rattle.verse_value.specs.Answer.{Answer, gives, fails, error, stuck}
 use Rattle.verse_value.specs.Equality.{val_eq}
 use Rattle.verse_value.specs.Operations.{sum_of, difference_of, product_of, negation_of, floor_of, ceil_of, modulo_of, concat_of, join_of}
 use Rattle.verse_value.specs.Operations.{less_of, at_most_of, greater_of, at_least_of, equal_of, unequal_of, array_of, map_of, tuple_of}
 use Rattle.verse_value.specs.Operations.{option_of, query_of, item_of, at_of, length_of, append_of}
-use Rattle.verse_value.specs.Storing.{read_slot, write_slot}
 use Rattle.verse_value.specs.declared.runs.Ending.TheVariants as ending
 use Rattle.verse_meaning_state.specs.State.{State, Given, spending, restored}
 use Rattle.verse_meaning_state.specs.Waits.{Cause, never, done, heard, after, ltn, nth}
-use Rattle.verse_meaning_state.specs.Effects.{Effect, still, added, variable_made, object_made, event_made, slot_read, changed}
+use Rattle.verse_meaning_state.specs.Effects.{Effect, still, variable_made, object_made, event_made, slot_read}
 use Rattle.verse_meaning_state.specs.Effects.{slot_written}
-use Rattle.verse_meaning_state.specs.Effects.{text_printed, line_printed, event_of, task_of}
+use Rattle.verse_meaning_state.specs.Effects.{line_printed, event_of, task_of}
 use Rattle.verse_meaning_state.specs.Effects.{signal_sent}
+use Rattle.verse_meaning_state.proofs.Keeping.{Keeps, still_keeps, added_keeps, read_keeps, written_keeps}
+use Rattle.verse_meaning_state.proofs.Keeping.{printed_keeps, sent_keeps}
+use Rattle.verse_meaning_state.proofs.Numbers.{ltn_is}
 use Rattle.verse_code_machine.specs.Tasks.{Life, Handler, Frame, Note, to, gone, Who, thread, World, Step, Next, Over, machine}
 use Rattle.verse_code_machine.specs.Frames.{on_top, on_two, on_many, on_there, only_where, put, fits, goes, failing, faulting, answered}
 use Rattle.verse_code_machine.specs.Frames.{answered_to, enters, method_of, free, clean, nothing, kept_defers, kept_noted}
@@ -43,92 +45,6 @@ use Rattle.verse_code_machine.proofs.Weights.{over}
 use Rattle.verse_code_machine.proofs.Ends.{others, note_weight, spending_low, resumes_low, frames_low, next_low, suspends_low, ends_low}
 use Rattle.verse_code_machine.proofs.Ends.{returns_low, cleared_low}
 
--- an effect takes no step
-abbrev pub Keeps : State → Effect → Type 0
-Keeps s (gives x) = x.1.clock.left ≡ s.clock.left
-Keeps s fails = Unit {0}
-Keeps s (error k) = Unit {0}
-Keeps s stuck = Unit {0}
-
-still_keeps : (a : Answer Val) (s : State) → Keeps s (still a s)
-still_keeps (gives v) s = refl
-still_keeps fails s = tt
-still_keeps (error k) s = tt
-still_keeps stuck s = tt
-
-added_keeps : (a : Answer Store) (v : Val) (s : State) → Keeps s (added a v s)
-added_keeps (gives x) v s = refl
-added_keeps fails v s = tt
-added_keeps (error k) v s = tt
-added_keeps stuck v s = tt
-
-changed_keeps : (a : Answer (Store × Val)) (s : State) → Keeps s (changed a s)
-changed_keeps (gives x) s = refl
-changed_keeps fails s = tt
-changed_keeps (error k) s = tt
-changed_keeps stuck s = tt
-
-read_keeps : (slot : ℕ) (v : Val) (s : State) → Keeps s (slot_read slot v s)
-read_keeps slot unit s = tt
-read_keeps slot falsity s = tt
-read_keeps slot truth s = tt
-read_keeps slot (int z) s = tt
-read_keeps slot (char c) s = tt
-read_keeps slot (enum a b) s = tt
-read_keeps slot (object c) s = still_keeps (read_slot s.memory.store c slot) s
-read_keeps slot (event c) s = tt
-read_keeps slot (task c) s = tt
-read_keeps slot (some v) s = tt
-read_keeps slot (array vs) s = tt
-read_keeps slot (mapping ps) s = tt
-read_keeps slot (tuple vs) s = tt
-
-written_keeps : (slot : ℕ) (path : List Val) (m : _) (v c : Val) (s : State) → Keeps s (slot_written slot path m v c s)
-written_keeps slot path m v unit s = tt
-written_keeps slot path m v falsity s = tt
-written_keeps slot path m v truth s = tt
-written_keeps slot path m v (int z) s = tt
-written_keeps slot path m v (char c) s = tt
-written_keeps slot path m v (enum a b) s = tt
-written_keeps slot path m v (object c) s = changed_keeps (write_slot s.memory.store c slot path m v) s
-written_keeps slot path m v (event c) s = tt
-written_keeps slot path m v (task c) s = tt
-written_keeps slot path m v (some w) s = tt
-written_keeps slot path m v (array vs) s = tt
-written_keeps slot path m v (mapping ps) s = tt
-written_keeps slot path m v (tuple vs) s = tt
-
-told_keeps : (b : Bool) (x : Val × State) (k : Error) (s : State) → x.1.clock.left ≡ s.clock.left → Keeps s (cond b (gives x) (error k))
-told_keeps true x k s e = e
-told_keeps false x k s e = tt
-
-text_keeps : (bytes : Option (List ℕ)) (s : State) → Keeps s (text_printed bytes s)
-text_keeps None s = tt
-text_keeps (Some bytes) s = told_keeps _ _ _ s refl
-
-printed_keeps : (v : Val) (s : State) → Keeps s (line_printed v s)
-printed_keeps unit s = tt
-printed_keeps falsity s = tt
-printed_keeps truth s = tt
-printed_keeps (int z) s = tt
-printed_keeps (char c) s = tt
-printed_keeps (enum a b) s = tt
-printed_keeps (object c) s = tt
-printed_keeps (event c) s = tt
-printed_keeps (task c) s = tt
-printed_keeps (some v) s = tt
-printed_keeps (array vs) s = text_keeps (bytes_of vs) s
-printed_keeps (mapping ps) s = tt
-printed_keeps (tuple vs) s = tt
-
-sent_keeps : (e : Option ℕ) (v : Val) (s : State) → Keeps s (signal_sent e v s)
-sent_keeps None v s = tt
-sent_keeps (Some c) v s = refl
-
-and_left : (a b : Bool) → (a && b) ≡ true → a ≡ true
-and_left true b e = refl
-and_left false b e = cc
-
 within_label : (x y b : Bool) → cond x (cond y b false) false ≡ true → y ≡ true
 within_label true true b e = refl
 within_label true false b e = cc
@@ -137,16 +53,11 @@ within_label false y b e = cc
 label_above : (h : Handler) (hs : List Handler) (q : ℕ) → fits (h ∷ hs) q ≡ true → q < h.label
 label_above h hs q e = ltb-true q h.label (within_label (nat_lt h.made q) (nat_lt q h.label) (fits hs q) e)
 
-less : (a b : ℕ) → ltn a b ≡ true → a < b
-less a zero e = cc
-less zero (suc b) e = omega arith
-less (suc a) (suc b) e = omega (arith, less a b e)
-
 arms_behind : (a m : ℕ) → a ≤ after_arms a m
 arms_behind a zero = omega arith
 arms_behind a (suc m) = omega (arith, arms_behind (suc a) m)
 
-no_handler : (hs : List Handler) (ns : List Note) (bl : List Frame) → free hs ns bl ≡ true → hs ≡ []
+pub no_handler : (hs : List Handler) (ns : List Note) (bl : List Frame) → free hs ns bl ≡ true → hs ≡ []
 no_handler [] ns bl e = refl
 no_handler (h ∷ hs) ns bl e = cc
 
@@ -482,8 +393,8 @@ module _ (n : ℕ) (y : Who) (x : World) (s : State) (g : Life) (pc : ℕ) (hs :
       there_low n _ (slice_get c.classes m) s _ (λ (k : Class).
       many_low n _ k.slots st [] s _ (λ vs st. answered_here (place_at c p) (object_made m vs s) ls st (added_keeps _ _ s)))
   act_low c (o.Event p) ls st v = answered_here (place_at c p) (event_made s) ls st (added_keeps _ _ s)
-  act_low c (o.Jump l) ls st v = jump_here l ls st (ltb-true pc l (and_left (nat_lt pc l) _ v))
-  act_low c (o.Same l) ls st v = two_low n _ st s _ (λ a b st. same_here (val_eq a b) l ls st (ltb-true pc l (and_left (nat_lt pc l) _ v)))
+  act_low c (o.Jump l) ls st v = jump_here l ls st (ltb-true pc l (and_first (nat_lt pc l) _ v))
+  act_low c (o.Same l) ls st v = two_low n _ st s _ (λ a b st. same_here (val_eq a b) l ls st (ltb-true pc l (and_first (nat_lt pc l) _ v)))
   act_low c (o.Again l) ls st v =
       only_low n _ (fits hs l) s _ (λ t. spending_low n _ s.clock.left s _ (λ k e. record {
         holds =
@@ -562,10 +473,10 @@ module _ (n : ℕ) (y : Who) (x : World) (s : State) (g : Life) (pc : ℕ) (hs :
   act_low c o.ArmEnd ls st v =
       top_low n _ st s _ (λ a st. clean_low n _ g s _ (ends_low n _ y x g.born a s hs bl (omega (arith, i.within)) i.others))
   act_low c (o.Defer l) ls st v =
-      goes_low n _ y x s s _ ls st l hs bl (omega (arith, i.within, ltb-true pc l (and_left (nat_lt pc l) _ v))) i.kept i.below i.others
+      goes_low n _ y x s s _ ls st l hs bl (omega (arith, i.within, ltb-true pc l (and_first (nat_lt pc l) _ v))) i.kept i.below i.others
   act_low c (o.Leave m) ls st v =
       only_low n _ (not (ltn (length g.defers) m)) s _ (λ t. only_low n _ (not (ltn m (kept_defers hs))) s _ (λ t. leaves_here (ltn m
       (length g.defers)) ls st))
   act_low c o.DeferEnd ls st v =
-      only_low n _ (ltn (kept_noted hs) (length g.noted)) s _ (λ t. noted_here g.noted ls st refl (less (kept_noted hs) (length g.noted)
+      only_low n _ (ltn (kept_noted hs) (length g.noted)) s _ (λ t. noted_here g.noted ls st refl (ltn_is (kept_noted hs) (length g.noted)
       t))

@@ -1,5 +1,5 @@
 -- What tasks do with one another keeps that a state belongs to a code.
-use Rattle.std.proofs.Common.{◌≡◌, ℕ, zero, suc, List, [], ◌∷◌, ◌++◌, Option, Some, None, Bool, refl}
+use Rattle.std.proofs.Common.{ℕ, zero, suc, List, [], ◌∷◌, ◌++◌, Option, Some, None, Bool}
 use Rattle.std.proofs.lemmas.Bool.{cond_both}
 use Rattle.verse_code.specs.declared.codes.Class.{Class}
 use Rattle.verse_base.specs.declared.places.Place.{Place}
@@ -295,10 +295,6 @@ module _ (cs : List Class) where
   ends_low x o born v s (a ∷ hs) bl h b = over h
   ends_low x o born v s [] (f ∷ bl) h b = over h
   ends_low x o born v s [] [] h b = ends_role_low x.role x o born v s h b
-
-  result_left : (entry : Option ℕ) (v : Val) (s : State) → (with_result entry v s).clock.left ≡ s.clock.left
-  result_left None v s = refl
-  result_left (Some entry) v s = refl
 
   finishing_low : (x : Who) (entry : Option ℕ) (v : Val) → Follows (λ o s. role_ends (root entry) x v o (with_result entry v s))
       (finishing x entry v)

@@ -242,10 +242,6 @@ module _ (n w : ℕ) where
   ends_low x o born v s [] (f ∷ bl) h b = over n
   ends_low x o born v s [] [] h b = ends_role_low x.role x o born v s h b
 
-  result_left : (entry : Option ℕ) (v : Val) (s : State) → (with_result entry v s).clock.left ≡ s.clock.left
-  result_left None v s = refl
-  result_left (Some entry) v s = refl
-
   finishing_low : (x : Who) (entry : Option ℕ) (v : Val) → Follows (λ o s. role_ends (root entry) x v o (with_result entry v s))
       (finishing x entry v)
   finishing_low x None v o s h a b = role_low (root None) x v o s (omega (arith, h)) b

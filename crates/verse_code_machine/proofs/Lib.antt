@@ -1,8 +1,9 @@
+pub mod Paths
 mod Examples
 mod Weights
 mod Ends
-mod Acts
-mod Whole
+pub mod Acts
+pub mod Whole
 mod BelongingEnds
 mod BelongingActs
 mod BelongingRuns

@@ -167,7 +167,7 @@ runs_end c ns steps until valid = record {
       steps));
 }
 
-over_turns : (take : State → Forest → Stage Forest) (j : ℕ) (g : Stage Forest) → IsOver g → turns take j g ≡ g
+pub over_turns : (take : State → Forest → Stage Forest) (j : ℕ) (g : Stage Forest) → IsOver g → turns take j g ≡ g
 over_turns take zero g h = refl
 over_turns take (suc j) (going s tss) h = absurd h
 over_turns take (suc j) (closed e s tss) h = refl

@@ -2,7 +2,7 @@
 //! the definitions in this order: `Tasks`, `Frames`, `Cancelling`, `Ends`, `Acts` (one case for
 //! each operation), `Runs`, `Belonging`, `Laws`, `Goings` (runs from a state between two turns).
 //! `Acts` in proofs shows that each operation lowers a weight. The public lemmas, which crates
-//! above cite, are those of `proofs/Goings`.
+//! above cite, are those of `proofs/Goings`, `proofs/Paths`, `proofs/Acts` and `proofs/Whole`.
 #![tactic(auto)]
 
 ghost use Rattle.verse_code_machine.specs.Belonging.{OperationKeeps, RunBelongs};

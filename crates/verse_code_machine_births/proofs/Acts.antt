@@ -1,6 +1,6 @@
 -- Each operation keeps what holds of all tasks.
 use Rattle.std.proofs.Common.{◌≡◌, ℕ, zero, suc, ◌≤◌, length, ◌+◌, List, [], ◌∷◌, Option, Some, None, Bool, true}
-use Rattle.std.proofs.Common.{false, cond, refl, arith}
+use Rattle.std.proofs.Common.{false, refl, arith}
 use Rattle.std.specs.Prelude.{pos, not, slice_get}
 use Rattle.verse_base.specs.declared.places.Place.{Place}
 use Rattle.verse_base.specs.declared.refusals.Kind.{Kind as Error}
@@ -11,7 +11,6 @@ use Rattle.verse_code.specs.declared.codes.Class.{Class}
 use Rattle.verse_code.specs.declared.codes.Code.{Code}
 use Rattle.verse_value.specs.Val.{Val, unit, falsity, truth, int, char, enum, object, event, task, some, array}
 use Rattle.verse_value.specs.Val.{mapping, tuple}
-use Rattle.verse_value.specs.Keys.{bytes_of}
 use Rattle.verse_value.specs.Store.{Store}
 use Rattle.verse_value.specs.Answer.{Answer, gives, fails, error, stuck}
 use Rattle.verse_value.specs.Operations.{sum_of, difference_of, product_of, negation_of, floor_of, ceil_of, modulo_of}
@@ -19,16 +18,15 @@ use Rattle.verse_value.specs.Operations.{concat_of, join_of}
 use Rattle.verse_value.specs.Operations.{less_of, at_most_of, greater_of, at_least_of, equal_of, unequal_of, array_of}
 use Rattle.verse_value.specs.Operations.{map_of, tuple_of}
 use Rattle.verse_value.specs.Operations.{option_of, query_of, item_of, at_of, length_of, append_of}
-use Rattle.verse_value.specs.Storing.{read_slot, write_slot}
-use Rattle.verse_value.specs.declared.modes.Mode.{Mode}
 use Rattle.verse_value.specs.declared.runs.Ending.{Ending}
 use Rattle.verse_value.specs.declared.runs.Ending.TheVariants as ending
 use Rattle.verse_meaning_state.specs.State.{State, Given, spending, stepped, restored}
 use Rattle.verse_meaning_state.specs.Waits.{never, done, heard, after, ltn, nth}
-use Rattle.verse_meaning_state.specs.Effects.{Effect, still, added, variable_made, object_made, event_made, slot_read}
-use Rattle.verse_meaning_state.specs.Effects.{changed}
-use Rattle.verse_meaning_state.specs.Effects.{slot_written, text_printed, line_printed, event_of, task_of}
+use Rattle.verse_meaning_state.specs.Effects.{Effect, still, variable_made, object_made, event_made, slot_read}
+use Rattle.verse_meaning_state.specs.Effects.{slot_written, line_printed, event_of, task_of}
 use Rattle.verse_meaning_state.specs.Effects.{signal_sent}
+use Rattle.verse_meaning_state.proofs.Keeping.{Keeps, still_keeps, added_keeps, read_keeps, written_keeps}
+use Rattle.verse_meaning_state.proofs.Keeping.{printed_keeps, sent_keeps}
 use Rattle.verse_code_machine.specs.Tasks.{Life, Handler, Frame, Note, to, gone, Who, Part, Thread, thread, Task, World, Step}
 use Rattle.verse_code_machine.specs.Tasks.{Next, Over, machine}
 use Rattle.verse_code_machine.specs.Frames.{on_top, on_two, on_many, on_there, only_where, put, fits, goes, failing}
@@ -47,90 +45,6 @@ use Rattle.verse_code_machine_births.proofs.Kept.{Kept, is_new, same_frames, new
 use Rattle.verse_code_machine_births.proofs.Kept.{moved, tried, released, failed}
 use Rattle.verse_code_machine_births.proofs.Ends.{Low, over, others, spending_low, resumes_low, frames_low, next_low}
 use Rattle.verse_code_machine_births.proofs.Ends.{suspends_low, ends_low, returns_low, cleared_low}
-
--- what works on memory leaves the steps as they are
-abbrev Keeps : State → Effect → Type 0
-Keeps s (gives x) = x.1.clock.left ≡ s.clock.left
-Keeps s fails = Unit {0}
-Keeps s (error k) = Unit {0}
-Keeps s stuck = Unit {0}
-
-still_keeps : (a : Answer Val) (s : State) → Keeps s (still a s)
-still_keeps (gives v) s = refl
-still_keeps fails s = tt
-still_keeps (error k) s = tt
-still_keeps stuck s = tt
-
-added_keeps : (a : Answer Store) (v : Val) (s : State) → Keeps s (added a v s)
-added_keeps (gives store) v s = refl
-added_keeps fails v s = tt
-added_keeps (error k) v s = tt
-added_keeps stuck v s = tt
-
-changed_keeps : (a : Answer (Store × Val)) (s : State) → Keeps s (changed a s)
-changed_keeps (gives x) s = refl
-changed_keeps fails s = tt
-changed_keeps (error k) s = tt
-changed_keeps stuck s = tt
-
-read_keeps : (slot : ℕ) (v : Val) (s : State) → Keeps s (slot_read slot v s)
-read_keeps slot unit s = tt
-read_keeps slot falsity s = tt
-read_keeps slot truth s = tt
-read_keeps slot (int n) s = tt
-read_keeps slot (char n) s = tt
-read_keeps slot (enum a b) s = tt
-read_keeps slot (object c) s = still_keeps (read_slot s.memory.store c slot) s
-read_keeps slot (event n) s = tt
-read_keeps slot (task n) s = tt
-read_keeps slot (some w) s = tt
-read_keeps slot (array vs) s = tt
-read_keeps slot (mapping ps) s = tt
-read_keeps slot (tuple vs) s = tt
-
-written_keeps : (slot : ℕ) (path : List Val) (m : Mode) (v c : Val) (s : State) → Keeps s (slot_written slot path m v
-    c s)
-written_keeps slot path m v unit s = tt
-written_keeps slot path m v falsity s = tt
-written_keeps slot path m v truth s = tt
-written_keeps slot path m v (int n) s = tt
-written_keeps slot path m v (char n) s = tt
-written_keeps slot path m v (enum a b) s = tt
-written_keeps slot path m v (object c) s = changed_keeps (write_slot s.memory.store c slot path m v) s
-written_keeps slot path m v (event n) s = tt
-written_keeps slot path m v (task n) s = tt
-written_keeps slot path m v (some w) s = tt
-written_keeps slot path m v (array vs) s = tt
-written_keeps slot path m v (mapping ps) s = tt
-written_keeps slot path m v (tuple vs) s = tt
-
-told_keeps : (b : Bool) (x : Val × State) (k : Error) (s : State) → x.1.clock.left ≡ s.clock.left → Keeps s (cond b
-    (gives x) (error k))
-told_keeps true x k s e = e
-told_keeps false x k s e = tt
-
-text_keeps : (bytes : Option (List ℕ)) (s : State) → Keeps s (text_printed bytes s)
-text_keeps None s = tt
-text_keeps (Some bytes) s = told_keeps _ _ _ s refl
-
-printed_keeps : (v : Val) (s : State) → Keeps s (line_printed v s)
-printed_keeps unit s = tt
-printed_keeps falsity s = tt
-printed_keeps truth s = tt
-printed_keeps (int n) s = tt
-printed_keeps (char n) s = tt
-printed_keeps (enum a b) s = tt
-printed_keeps (object c) s = tt
-printed_keeps (event n) s = tt
-printed_keeps (task n) s = tt
-printed_keeps (some w) s = tt
-printed_keeps (array vs) s = text_keeps (bytes_of vs) s
-printed_keeps (mapping ps) s = tt
-printed_keeps (tuple vs) s = tt
-
-sent_keeps : (e : Option ℕ) (v : Val) (s : State) → Keeps s (signal_sent e v s)
-sent_keeps None v s = tt
-sent_keeps (Some c) v s = refl
 
 module _ (most : ℕ) (F : Who → List Frame → Type 0) (R : Thread → List Part → Type 0) (OfTask : Task → Type 0)
     (OfBegins : Thread → List Part → ℕ → Type 0) (law : Kept most F R OfTask OfBegins) where

@@ -334,10 +334,6 @@ module _ (most : ℕ) (F : Who → List Frame → Type 0) (R : Thread → List P
   ends_low x o born v s [] (f ∷ bl) h b = over
   ends_low x o born v s [] [] h b = ends_role_low x.role x o born v s h b
 
-  result_left : (entry : Option ℕ) (v : Val) (s : State) → (with_result entry v s).clock.left ≡ s.clock.left
-  result_left None v s = refl
-  result_left (Some entry) v s = refl
-
   finishing_low : (x : Who) (entry : Option ℕ) (v : Val) → Follows (λ o s. role_ends (root entry) x v o (with_result
       entry v s))
       (finishing x entry v)

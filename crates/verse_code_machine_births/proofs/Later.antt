@@ -6,20 +6,12 @@ use Rattle.std.specs.Prelude.{slice_get}
 use Rattle.verse_value.specs.declared.runs.Ending.TheVariants as ending
 use Rattle.verse_code.specs.declared.operations.Op.TheVariants as o
 use Rattle.verse_meaning_state.specs.State.{State, spending}
-use Rattle.verse_meaning_state.specs.Waits.{eqn, ltn}
+use Rattle.verse_meaning_state.specs.Waits.{eqn}
+use Rattle.verse_meaning_state.proofs.Numbers.{eqn_same, ltn_yes}
 use Rattle.verse_code_machine.specs.Tasks.{Frame, Machine, Step, Next, Over, since}
 use Rattle.verse_code_machine.specs.Frames.{on_there, only_where}
 use Rattle.verse_code_machine_births.specs.Births.{FramesBorn}
 use Rattle.verse_code_machine_births.specs.Later.{SinceEach, LaterSince, BranchSince, ArmSince}
-
-less_told : (n k : ℕ) → n < k → ltn n k ≡ true
-less_told n zero h = absurd (omega (arith, h))
-less_told zero (suc k) h = refl
-less_told (suc n) (suc k) h = less_told n k (omega (arith, h))
-
-same_told : (n : ℕ) → eqn n n ≡ true
-same_told zero = refl
-same_told (suc n) = same_told n
 
 cond_true : (b : Bool) (x y : Bool) → b ≡ true → cond b x y ≡ x
 cond_true true x y e = refl
@@ -27,9 +19,9 @@ cond_true false x y e = absurd (cc)
 
 -- beneath a child with a number below the bound
 beneath : (path rest : List ℕ) (born number : ℕ) → number < born → since path born (path ++ number ∷ rest) ≡ true
-beneath [] rest born number h = less_told number born h
+beneath [] rest born number h = ltn_yes number born h
 beneath (i ∷ path) rest born number h =
-    cond_true (eqn i i) (since path born (path ++ number ∷ rest)) false (same_told i) ∙ beneath path rest born number
+    cond_true (eqn i i) (since path born (path ++ number ∷ rest)) false (eqn_same i) ∙ beneath path rest born number
     h
 
 since_each : (left number : ℕ) (path rest : List ℕ) (fs : List Frame) → number < left → FramesBorn left fs →

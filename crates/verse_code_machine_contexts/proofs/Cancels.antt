@@ -2,6 +2,7 @@
 use Rattle.std.proofs.Common.{◌≡◌, ℕ, zero, suc, List, [], ◌∷◌, ◌++◌, ◌⊎◌, inl, inr, Option, Some, None, Bool, true}
 use Rattle.std.proofs.Common.{false}
 use Rattle.std.proofs.Common.{refl, sym, subst, ap, ◌∙◌}
+use Rattle.std.proofs.lemmas.Bool.{cond_both}
 use Rattle.verse_code.specs.declared.operations.Op.{Op}
 use Rattle.verse_code.specs.declared.operations.Op.TheVariants as does
 use Rattle.verse_code.specs.declared.codes.Code.{Code}
@@ -18,7 +19,6 @@ use Rattle.verse_code_machine.specs.Ends.{follows}
 use Rattle.verse_code_machine.specs.Runs.{step}
 use Rattle.verse_code_machine_parents.specs.Parents.{EachTask, AllStill, MachineRooted, StepRooted}
 use Rattle.verse_code_machine_parents.specs.Cancelled.{NoneSince, CancelledOnce}
-use Rattle.verse_code_machine_parents.proofs.Lists.{cond_with}
 use Rattle.verse_code_machine_parents.proofs.Running.{operation_roots}
 use Rattle.verse_code_machine_contexts.specs.Runs.{op_at, Comes, at_once, later}
 use Rattle.verse_code_machine_contexts.specs.Contexts.{StepsAlone}
@@ -52,7 +52,7 @@ still_free (t ∷ ts) a =
 module _ (is : Task → Type 0) (f : List ℕ → Bool) where
   each_inserted : (t : Task) (ts : List Task) → is t → EachTask is ts → EachTask is (inserted t ts)
   each_inserted t [] a b = (a, b)
-  each_inserted t (x ∷ xs) a b = cond_with _ (x ∷ inserted t xs) (t ∷ x ∷ xs) (EachTask is) (λ e. (
+  each_inserted t (x ∷ xs) a b = cond_both _ (x ∷ inserted t xs) (t ∷ x ∷ xs) (EachTask is) (λ e. (
     b.0,
     each_inserted t
         xs a b.1,
@@ -61,13 +61,13 @@ module _ (is : Task → Type 0) (f : List ℕ → Bool) where
 
   each_before : (ts : List Task) → EachTask is ts → EachTask is (gone_before f ts)
   each_before [] a = tt
-  each_before (t ∷ ts) a = cond_with (f t.thread.who.path) (inserted t (gone_before f ts)) (gone_before f ts) (EachTask
+  each_before (t ∷ ts) a = cond_both (f t.thread.who.path) (inserted t (gone_before f ts)) (gone_before f ts) (EachTask
       is)
       (λ e. each_inserted t (gone_before f ts) a.0 (each_before ts a.1)) (λ e. each_before ts a.1)
 
   each_behind : (ts : List Task) → EachTask is ts → EachTask is (gone_behind f ts)
   each_behind [] a = tt
-  each_behind (t ∷ ts) a = cond_with (f t.thread.who.path) (t ∷ gone_behind f ts) (gone_behind f ts) (EachTask is)
+  each_behind (t ∷ ts) a = cond_both (f t.thread.who.path) (t ∷ gone_behind f ts) (gone_behind f ts) (EachTask is)
       (λ e. (a.0, each_behind ts a.1)) (λ e. each_behind ts a.1)
 
   each_both : (ts us : List Task) → EachTask is ts → EachTask is us → EachTask is (ts ++ us)
@@ -76,7 +76,7 @@ module _ (is : Task → Type 0) (f : List ℕ → Bool) where
 
   pub each_without : (ts : List Task) → EachTask is ts → EachTask is (without f ts)
   each_without [] a = tt
-  each_without (t ∷ ts) a = cond_with (f t.thread.who.path) (without f ts) (t ∷ without f ts) (EachTask is)
+  each_without (t ∷ ts) a = cond_both (f t.thread.who.path) (without f ts) (t ∷ without f ts) (EachTask is)
       (λ e. each_without ts a.1) (λ e. (a.0, each_without ts a.1))
 
   each_cancelled : (o : World) → EachTask is o.pre → EachTask is o.post → EachTask is (cancelled f o)
@@ -87,7 +87,7 @@ module _ (is : Task → Type 0) (f : List ℕ → Bool) where
 module _ (f : List ℕ → Bool) where
   none_in : (ts : List Task) → EachTask (λ t. f t.thread.who.path ≡ false) (without f ts)
   none_in [] = tt
-  none_in (t ∷ ts) = cond_with (f t.thread.who.path) (without f ts) (t ∷ without f ts)
+  none_in (t ∷ ts) = cond_both (f t.thread.who.path) (without f ts) (t ∷ without f ts)
       (EachTask (λ t. f t.thread.who.path ≡ false)) (λ e. none_in ts) (λ e. (e, none_in ts))
 
   none_left : (o : World) → EachTask (λ t. f t.thread.who.path ≡ false) ((world_without f o).pre ++ (world_without f

@@ -1,11 +1,12 @@
 -- The frames of a task since a moment: the one that then was on top, and those that were called since. Of that frame it
 -- is
 -- said which notes and contexts it had, of the others that they began since.
-use Rattle.std.proofs.Common.{◌≡◌, ℕ, zero, suc, ◌+◌, ◌≤◌, ◌<◌, length, List, [], ◌∷◌, ◌++◌, ◌⊎◌, inl, inr, Bool, true}
+use Rattle.std.proofs.Common.{◌≡◌, ℕ, suc, ◌+◌, ◌≤◌, ◌<◌, length, List, [], ◌∷◌, ◌++◌, ◌⊎◌, inl, inr, Bool, true}
 use Rattle.std.proofs.Common.{false}
 use Rattle.std.proofs.Common.{refl, sym, subst, arith, ap}
 use Rattle.verse_value.specs.Val.{Val}
-use Rattle.verse_meaning_state.specs.Waits.{eqn, ltn}
+use Rattle.verse_meaning_state.specs.Waits.{ltn}
+use Rattle.verse_meaning_state.proofs.Numbers.{eqn_same, eqn_less, ltn_is}
 use Rattle.verse_code_machine.specs.Tasks.{Handler, Frame, Note, to, Task, World, since}
 use Rattle.verse_code_machine.specs.Frames.{free, kept_noted}
 use Rattle.verse_code_machine.specs.Cancelling.{without, world_without, gone_before, gone_behind, cancelled}
@@ -26,14 +27,6 @@ same_less e = omega (arith, e)
 pub notes_longer : {base ns : List Note} → Notes base ns → length base ≤ length ns
 notes_longer none = omega arith
 notes_longer (more a) = same_less (notes_longer a)
-
-pub ltn_is : (a b : ℕ) → ltn a b ≡ true → a < b
-ltn_is a zero e = cc
-ltn_is zero (suc b) e = omega arith
-ltn_is (suc a) (suc b) e = up (ltn_is a b e)
-  where
-    up : {a b : ℕ} → a < b → suc a < suc b
-    up e = omega (arith, e)
 
 -- the last noted place was noted since, or nothing was
 notes_tail : {base ns : List Note} {y : Note} → Notes base (y ∷ ns) → (IsPlace y × Notes base ns) ⊎ (y ∷ ns ≡ base)
@@ -82,15 +75,6 @@ not_free_above [] [] f fs e = e
 
 pub not_less : {i j k : ℕ} → i ≤ j → k ≤ i → ltn j k ≡ true → ⊥
 not_less {i} {j} {k} l h e = omega (arith, l, h, ltn_is j k e)
-
-eqn_less : (a b : ℕ) → a < b → eqn a b ≡ false
-eqn_less zero zero e = absurd (omega (arith, e))
-eqn_less zero (suc b) e = refl
-eqn_less (suc a) zero e = absurd (omega (arith, e))
-eqn_less (suc a) (suc b) e = eqn_less a b (down e)
-  where
-    down : {a b : ℕ} → suc a < suc b → a < b
-    down e = omega (arith, e)
 
 module _ (fresh : ℕ → Type 0) (base : List Note) (root : List Handler) (under : List Frame) where
   abbrev Is : ℕ → List Note → List Handler → List Frame → Type 0
@@ -204,10 +188,6 @@ module _ (fresh : ℕ → Type 0) (base : List Note) (root : List Handler) (unde
     where
       behind : {a b : ℕ} → a ≤ b → a < suc b
       behind e = omega (arith, e)
-
-eqn_same : (a : ℕ) → eqn a a ≡ true
-eqn_same zero = refl
-eqn_same (suc a) = eqn_same a
 
 pub locals_own : (ls : List Val) (bl : List Frame) → locals_above (length bl) ls bl ≡ ls
 locals_own ls [] = refl

@@ -1,12 +1,13 @@
 -- What the tests of names say: what a frame has begun, and what is beneath an arm.
 use Rattle.std.proofs.Common.{◌≡◌, ℕ, ◌<◌, List, [], ◌∷◌, ◌++◌, Bool, true, false, cond, refl, sym, subst}
+use Rattle.std.proofs.lemmas.Bool.{cond_both}
 use Rattle.verse_meaning_state.specs.Waits.{eqn}
+use Rattle.verse_meaning_state.proofs.Numbers.{eqn_is, eqn_same, ltn_is, ltn_yes}
 use Rattle.verse_code_machine.specs.Tasks.{Part, did, runs, Machine, starts, since, beneath_arms}
 use Rattle.verse_code_machine.specs.Ends.{is_run}
-use Rattle.verse_code_machine_parents.proofs.Lists.{no_both, cond_with, eqn_is, eqn_same, less_is}
+use Rattle.verse_code_machine_parents.proofs.Lists.{no_both}
 use Rattle.verse_code_machine_contexts.specs.Scopes.{BegunBy, NamesBegun}
 use Rattle.verse_code_machine_contexts.specs.Races.{BeneathArm, NamesBeneath}
-use Rattle.verse_code_machine_contexts.proofs.Frames.{ltn_is}
 
 -- a test that two conditions pass, each of them
 both_true : (b c : Bool) → cond b c false ≡ true → (b ≡ true) × (c ≡ true)
@@ -37,7 +38,7 @@ since_is (i ∷ a) n (j ∷ x) e = longer (both_true (eqn i j) (since a n x) e) 
         record { number = r.number; rest = r.rest; beneath = one_more (eqn_is i j b.0) r.beneath; less = r.less }
 
 since_all : (a : List ℕ) (n k : ℕ) (rest : List ℕ) → k < n → since a n (a ++ k ∷ rest) ≡ true
-since_all [] n k rest l = less_is k n l
+since_all [] n k rest l = ltn_yes k n l
 since_all (i ∷ a) n k rest l = rw (eqn_same i) (since_all a n k rest l)
 
 pub names_begun : (m : Machine) → NamesBegun m
@@ -69,14 +70,14 @@ starts_all (i ∷ a) n rest = rw (eqn_same i) (starts_all a n rest)
 
 -- an arm of the others is an arm
 later_arm : (n m : ℕ) (gs : List Part) → is_run n gs ≡ true → is_run n (runs m ∷ gs) ≡ true
-later_arm n m gs e = cond_with (eqn n m) true (is_run n gs) (λ b. b ≡ true) (λ h. refl) (λ h. e)
+later_arm n m gs e = cond_both (eqn n m) true (is_run n gs) (λ b. b ≡ true) (λ h. refl) (λ h. e)
 
 beneath_is : (path : List ℕ) (gs : List Part) (x : List ℕ) → beneath_arms path gs x ≡ true → BeneathArm path gs x
 beneath_is path [] x e = no_both (sym e)
 beneath_is path (did v ∷ gs) x e = let r = beneath_is path gs x e in
     record { number = r.number; rest = r.rest; is_arm = r.is_arm; beneath = r.beneath }
 beneath_is path (runs n ∷ gs) x e =
-    cond_with (starts (path ++ n ∷ []) x) true (beneath_arms path gs x) (λ b. b ≡ true → BeneathArm path (runs n ∷ gs)
+    cond_both (starts (path ++ n ∷ []) x) true (beneath_arms path gs x) (λ b. b ≡ true → BeneathArm path (runs n ∷ gs)
     x) (λ h i. first (starts_is path n x h)) (λ h i. later (beneath_is path gs x i)) e
   where
     first : (rest : List ℕ) × (x ≡ path ++ n ∷ rest) → BeneathArm path (runs n ∷ gs) x
@@ -95,8 +96,8 @@ beneath_all : (path : List ℕ) (gs : List Part) (n : ℕ) (rest : List ℕ) →
 beneath_all path [] n rest e = no_both (sym e)
 beneath_all path (did v ∷ gs) n rest e = beneath_all path gs n rest e
 beneath_all path (runs m ∷ gs) n rest e =
-    cond_with (eqn n m) true (is_run n gs) (λ b. b ≡ true → beneath_arms path (runs m ∷ gs) (path ++ n ∷ rest) ≡ true)
-    (λ h i. first (eqn_is n m h)) (λ h i. cond_with (starts (path ++ m ∷ []) (path ++ n ∷ rest)) true (beneath_arms path
+    cond_both (eqn n m) true (is_run n gs) (λ b. b ≡ true → beneath_arms path (runs m ∷ gs) (path ++ n ∷ rest) ≡ true)
+    (λ h i. first (eqn_is n m h)) (λ h i. cond_both (starts (path ++ m ∷ []) (path ++ n ∷ rest)) true (beneath_arms path
     gs (path ++ n ∷ rest)) (λ b. b ≡ true) (λ j. refl) (λ j. beneath_all path gs n rest i)) e
   where
     first : n ≡ m → beneath_arms path (runs m ∷ gs) (path ++ n ∷ rest) ≡ true

@@ -1,5 +1,6 @@
 -- Each cancelled task is cancelled once; nothing that stands when a frame begins has begun since.
 use Rattle.std.proofs.Common.{◌≡◌, ℕ, zero, suc, ◌≤◌, List, [], ◌∷◌, ◌++◌, Bool, true, false, cond, refl, sym, subst, arith}
+use Rattle.std.proofs.lemmas.Bool.{cond_both}
 use Rattle.verse_value.specs.declared.runs.Ending.TheVariants as ending
 use Rattle.verse_meaning_state.specs.State.{State, spending}
 use Rattle.verse_meaning_state.specs.Waits.{eqn, ltn}
@@ -9,12 +10,11 @@ use Rattle.verse_code_machine.specs.Cancelling.{inserted, without, gone_before, 
 use Rattle.verse_code_machine_parents.specs.Parents.{whos, line, HasParent, here, later, Rooted, rooted_no, rooted_root, rooted_part, chain}
 use Rattle.verse_code_machine_parents.specs.Parents.{EachTask, Tree, running, before_resuming, before_closing, before_finishing}
 use Rattle.verse_code_machine_parents.specs.Cancelled.{Inserts, first_of, behind, Splits, splits_no, goes, stays, CancelledOnce, NoneSince}
-use Rattle.verse_code_machine_parents.proofs.Lists.{cond_with}
 
 inserts : (t : Task) (ts : List Task) → Inserts t ts (inserted t ts)
 inserts t [] = first_of
 inserts t (x ∷ xs) =
-    cond_with (starts t.thread.who.path x.thread.who.path) (x ∷ inserted t xs) (t ∷ x ∷ xs) (Inserts t (x ∷ xs))
+    cond_both (starts t.thread.who.path x.thread.who.path) (x ∷ inserted t xs) (t ∷ x ∷ xs) (Inserts t (x ∷ xs))
     (λ e. behind (inserts t xs)) (λ e. first_of)
 
 -- both lists by one test
@@ -120,7 +120,7 @@ none_since [] l [] r = refl
 none_since [] l (k ∷ x) r = not_less k l r.0
 none_since (i ∷ a) l [] r = refl
 none_since (i ∷ a) l (j ∷ x) r =
-    cond_with (eqn i j) (since a l x) false (λ b. b ≡ false) (λ e. none_since a l x r.1) (λ e. refl)
+    cond_both (eqn i j) (since a l x) false (λ b. b ≡ false) (λ e. none_since a l x r.1) (λ e. refl)
 
 each_since : (a : List ℕ) (l : ℕ) (ts : List Task) → EachTask (λ t. AllFrom (suc l) t.thread.who.path) ts →
     EachTask (λ t. since a l t.thread.who.path ≡ false) ts

@@ -11,6 +11,7 @@ use Rattle.verse_value.specs.declared.runs.Ending.TheVariants as ending
 use Rattle.verse_meaning_state.specs.State.{State, spending, stepped, with_result, drawn}
 use Rattle.verse_meaning_state.specs.Waits.{Cause, waiting, has}
 use Rattle.verse_meaning_state.specs.Turns.{Kind, sync, race, rush}
+use Rattle.verse_meaning_state.proofs.Keeping.{result_left}
 use Rattle.verse_code_machine.specs.Tasks.{Life, Handler, Frame, Note, Role, root, part, Who, Part, did, runs, Rest, asleep, group, Thread}
 use Rattle.verse_code_machine.specs.Tasks.{thread, Task, After, resuming, closing, finishing, Up, begins, branching, spawning, clearing}
 use Rattle.verse_code_machine.specs.Tasks.{Trees}
@@ -30,7 +31,7 @@ use Rattle.verse_code_machine_parents.specs.Parents.{chain, Follow, HandlersBorn
 use Rattle.verse_code_machine_parents.specs.Parents.{marked_below, is_clearing, Framed, Still, EachTask, AllStill, TreesRooted, UpsRooted}
 use Rattle.verse_code_machine_parents.specs.Parents.{AllBeneath, Leaving, Tree, running, before_resuming, before_closing, before_finishing}
 use Rattle.verse_code_machine_parents.specs.Parents.{WorldRooted, StepRooted}
-use Rattle.verse_code_machine_parents.proofs.Lists.{no_both, cond_with, onto_line, longer, child_beneath, Takes, since_takes, since_child}
+use Rattle.verse_code_machine_parents.proofs.Lists.{no_both, onto_line, longer, child_beneath, Takes, since_takes, since_child}
 use Rattle.verse_code_machine_parents.proofs.Lists.{arms_takes, rooted_less, rooted_number, line_tail, More, line_more, Keeps}
 use Rattle.verse_code_machine_parents.proofs.Lists.{keeps_one, keeps_off, keeps_whos, keeps_line, stays, keeps_chain}
 
@@ -139,14 +140,14 @@ each_gone_before : (is was : Task → Type 0) (f : List ℕ → Bool) → ((t : 
     (ts : List Task) → EachTask was ts → EachTask is (gone_before f ts)
 each_gone_before is was f go [] a = tt
 each_gone_before is was f go (t ∷ ts) a =
-    cond_with (f t.thread.who.path) (inserted t (gone_before f ts)) (gone_before f ts) (EachTask is) (λ e. each_inserted is t (gone_before f
+    cond_both (f t.thread.who.path) (inserted t (gone_before f ts)) (gone_before f ts) (EachTask is) (λ e. each_inserted is t (gone_before f
     ts) (go t e a.0) (each_gone_before is was f go ts a.1)) (λ e. each_gone_before is was f go ts a.1)
 
 each_gone_behind : (is was : Task → Type 0) (f : List ℕ → Bool) → ((t : Task) → f t.thread.who.path ≡ true → was t → is t) →
     (ts : List Task) → EachTask was ts → EachTask is (gone_behind f ts)
 each_gone_behind is was f go [] a = tt
 each_gone_behind is was f go (t ∷ ts) a =
-    cond_with (f t.thread.who.path) (t ∷ gone_behind f ts) (gone_behind f ts) (EachTask is) (λ e. (
+    cond_both (f t.thread.who.path) (t ∷ gone_behind f ts) (gone_behind f ts) (EachTask is) (λ e. (
       go t e a.0,
       each_gone_behind is was f go
           ts a.1,
@@ -630,10 +631,6 @@ ends_low w o g v s (h ∷ hs) bl f clean r = over
 ends_low w o g v s [] (k ∷ bl) f clean r = over
 ends_low w o g v s [] [] f clean r =
     ends_role_low w.role w o.pre o.post o.ups o.trees g.born v s f.born.0 (clean_runs s.clock.left f clean r)
-
-result_left : (entry : Option ℕ) (v : Val) (s : State) → (with_result entry v s).clock.left ≡ s.clock.left
-result_left None v s = refl
-result_left (Some entry) v s = refl
 
 finishing_low : (w : Who) (entry : Option ℕ) (v : Val) → Follows (λ o s. role_ends (root entry) w v o (with_result entry v s))
     (finishing w entry v)

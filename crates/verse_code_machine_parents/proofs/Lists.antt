@@ -1,9 +1,10 @@
 -- What happens to a line of tasks: some of them go, one more begins, fewer steps are left.
-use Rattle.std.proofs.Common.{◌≡◌, ℕ, zero, suc, ◌+◌, ◌≤◌, ◌<◌, length, List, [], ◌∷◌, ◌++◌, Bool, true, false, cond, refl, sym, subst, ap}
+use Rattle.std.proofs.Common.{◌≡◌, ℕ, suc, ◌+◌, ◌≤◌, ◌<◌, length, List, [], ◌∷◌, ◌++◌, Bool, true, false, cond, refl, sym, subst, ap}
 use Rattle.std.proofs.Common.{arith, ◌∙◌}
 use Rattle.std.proofs.lemmas.Bool.{cond_both}
 use Rattle.std.proofs.lemmas.List.{length-append}
-use Rattle.verse_meaning_state.specs.Waits.{eqn, ltn}
+use Rattle.verse_meaning_state.specs.Waits.{eqn}
+use Rattle.verse_meaning_state.proofs.Numbers.{eqn_is, eqn_same, ltn_yes}
 use Rattle.verse_code_machine.specs.Tasks.{Who, Part, did, runs, Task, Up, begins, branching, spawning, clearing, onto, starts, since}
 use Rattle.verse_code_machine.specs.Tasks.{beneath_arms}
 use Rattle.verse_code_machine.specs.Cancelling.{without}
@@ -14,34 +15,9 @@ use Rattle.verse_code_machine_parents.specs.Parents.{chain, Follow}
 pub no_both : {A : Type 0} → true ≡ false → A
 no_both e = cc
 
-pub cond_with : {A : Type 0} (b : Bool) (x y : A) (P : A → Type 0) → (b ≡ true → P x) → (b ≡ false → P y) → P (cond b x y)
-cond_with true x y P f g = f refl
-cond_with false x y P f g = g refl
-
 pub onto_line : (xs ts : List Task) → whos (onto xs ts) ≡ line xs (whos ts)
 onto_line [] ts = refl
 onto_line (x ∷ xs) ts = onto_line xs (x ∷ ts)
-
-pub eqn_is : (a b : ℕ) → eqn a b ≡ true → a ≡ b
-eqn_is zero zero e = refl
-eqn_is zero (suc b) e = no_both (sym e)
-eqn_is (suc a) zero e = no_both (sym e)
-eqn_is (suc a) (suc b) e = ap suc (eqn_is a b e)
-
-pub eqn_same : (a : ℕ) → eqn a a ≡ true
-eqn_same zero = refl
-eqn_same (suc a) = eqn_same a
-
-pub less_is : (a b : ℕ) → a < b → ltn a b ≡ true
-less_is a zero e = elim (none a e) [ ]
-  where
-    none : (a : ℕ) → a < 0 → ⊥
-    none a e = omega (arith, e)
-less_is zero (suc b) e = refl
-less_is (suc a) (suc b) e = less_is a b (down a b e)
-  where
-    down : (a b : ℕ) → suc a < suc b → a < b
-    down a b e = omega (arith, e)
 
 -- paths
 pub longer : {a x : List ℕ} → Beneath a x → length a < length x
@@ -67,7 +43,7 @@ since_closed [] m [] n e = no_both (sym e)
 since_closed [] m (k ∷ x) n e = e
 since_closed (i ∷ a) m [] n e = no_both (sym e)
 since_closed (i ∷ a) m (j ∷ x) n e =
-    cond_with (eqn i j) (since a m x) false (λ b. b ≡ true → cond (eqn i j) (since a m (x ++ n ∷ [])) false ≡ true) (λ same h. subst (λ b.
+    cond_both (eqn i j) (since a m x) false (λ b. b ≡ true → cond (eqn i j) (since a m (x ++ n ∷ [])) false ≡ true) (λ same h. subst (λ b.
     cond b (since a m (x ++ n ∷ [])) false ≡ true) (sym same) (since_closed a m x n h)) (λ other h. no_both (sym h)) e
 
 onwards : {i j : ℕ} {a x : List ℕ} → i ≡ j → Beneath a x → Beneath (i ∷ a) (j ∷ x)
@@ -81,7 +57,7 @@ since_deeper [] m [] e = no_both (sym e)
 since_deeper [] m (k ∷ x) e = record { next = k; rest = x; goes_on = refl }
 since_deeper (i ∷ a) m [] e = no_both (sym e)
 since_deeper (i ∷ a) m (j ∷ x) e =
-    cond_with (eqn i j) (since a m x) false (λ b. b ≡ true → Beneath (i ∷ a) (j ∷ x)) (λ same h. onwards (eqn_is i j same) (since_deeper a m
+    cond_both (eqn i j) (since a m x) false (λ b. b ≡ true → Beneath (i ∷ a) (j ∷ x)) (λ same h. onwards (eqn_is i j same) (since_deeper a m
     x h)) (λ other h. no_both (sym h)) e
 
 pub since_takes : (a : List ℕ) (m : ℕ) → Takes a (since a m)
@@ -89,14 +65,14 @@ since_takes a m = record { closed = since_closed a m; deeper = since_deeper a m 
 
 -- what a task has begun since a frame began is taken out
 pub since_child : (a : List ℕ) (m n : ℕ) → n < m → since a m (a ++ n ∷ []) ≡ true
-since_child [] m n e = less_is n m e
+since_child [] m n e = ltn_yes n m e
 since_child (i ∷ a) m n e = subst (λ b. cond b (since a m (a ++ n ∷ [])) false ≡ true) (sym (eqn_same i)) (since_child a m n e)
 
 starts_closed : (a x : List ℕ) (n : ℕ) → starts a x ≡ true → starts a (x ++ n ∷ []) ≡ true
 starts_closed [] x n e = refl
 starts_closed (i ∷ a) [] n e = no_both (sym e)
 starts_closed (i ∷ a) (j ∷ x) n e =
-    cond_with (eqn i j) (starts a x) false (λ b. b ≡ true → cond (eqn i j) (starts a (x ++ n ∷ [])) false ≡ true) (λ same h. subst (λ b.
+    cond_both (eqn i j) (starts a x) false (λ b. b ≡ true → cond (eqn i j) (starts a (x ++ n ∷ [])) false ≡ true) (λ same h. subst (λ b.
     cond b (starts a (x ++ n ∷ [])) false ≡ true) (sym same) (starts_closed a x n h)) (λ other h. no_both (sym h)) e
 
 starts_deeper : (a : List ℕ) (n : ℕ) (x : List ℕ) → starts (a ++ n ∷ []) x ≡ true → Beneath a x
@@ -104,14 +80,14 @@ starts_deeper [] n [] e = no_both (sym e)
 starts_deeper [] n (k ∷ x) e = record { next = k; rest = x; goes_on = refl }
 starts_deeper (i ∷ a) n [] e = no_both (sym e)
 starts_deeper (i ∷ a) n (j ∷ x) e =
-    cond_with (eqn i j) (starts (a ++ n ∷ []) x) false (λ b. b ≡ true → Beneath (i ∷ a) (j ∷ x)) (λ same h. onwards (eqn_is i j same)
+    cond_both (eqn i j) (starts (a ++ n ∷ []) x) false (λ b. b ≡ true → Beneath (i ∷ a) (j ∷ x)) (λ same h. onwards (eqn_is i j same)
     (starts_deeper a n x h)) (λ other h. no_both (sym h)) e
 
 arms_closed : (a : List ℕ) (gs : List Part) (x : List ℕ) (n : ℕ) → beneath_arms a gs x ≡ true → beneath_arms a gs (x ++ n ∷ []) ≡ true
 arms_closed a [] x n e = no_both (sym e)
 arms_closed a (did v ∷ gs) x n e = arms_closed a gs x n e
 arms_closed a (runs m ∷ gs) x n e =
-    cond_with (starts (a ++ m ∷ []) x) true (beneath_arms a gs x) (λ b. b ≡ true → cond (starts (a ++ m ∷ []) (x ++ n ∷ [])) true
+    cond_both (starts (a ++ m ∷ []) x) true (beneath_arms a gs x) (λ b. b ≡ true → cond (starts (a ++ m ∷ []) (x ++ n ∷ [])) true
     (beneath_arms a gs (x ++ n ∷ [])) ≡ true) (λ same h. subst (λ b. cond b true (beneath_arms a gs (x ++ n ∷ [])) ≡ true) (sym
     (starts_closed (a ++ m ∷ []) x n same)) refl) (λ other h. cond_both (starts (a ++ m ∷ []) (x ++ n ∷ [])) true (beneath_arms a gs (x ++ n
     ∷ [])) (λ b. b ≡ true) (λ e. refl) (λ e. arms_closed a gs x n h)) e
@@ -120,7 +96,7 @@ arms_deeper : (a : List ℕ) (gs : List Part) (x : List ℕ) → beneath_arms a 
 arms_deeper a [] x e = no_both (sym e)
 arms_deeper a (did v ∷ gs) x e = arms_deeper a gs x e
 arms_deeper a (runs m ∷ gs) x e =
-    cond_with (starts (a ++ m ∷ []) x) true (beneath_arms a gs x) (λ b. b ≡ true → Beneath a x) (λ same h. starts_deeper a m x same) (λ
+    cond_both (starts (a ++ m ∷ []) x) true (beneath_arms a gs x) (λ b. b ≡ true → Beneath a x) (λ same h. starts_deeper a m x same) (λ
     other h. arms_deeper a gs x h) e
 
 pub arms_takes : (a : List ℕ) (gs : List Part) → Takes a (beneath_arms a gs)
@@ -200,7 +176,7 @@ module _ {a : List ℕ} {f : List ℕ → Bool} (takes : Takes a f) (left : ℕ)
   keeps_task : (t : Task) (ts : List Task) {ws vs : List Who} → Keeps f left ws vs →
       Keeps f left (t.thread.who ∷ ws) (cond (f t.thread.who.path) vs (t.thread.who ∷ vs))
   keeps_task t ts {ws = ws} {vs = vs} m =
-      cond_with (f t.thread.who.path) vs (t.thread.who ∷ vs) (Keeps f left (t.thread.who ∷ ws)) (λ e. keeps_off t.thread.who (λ n l.
+      cond_both (f t.thread.who.path) vs (t.thread.who ∷ vs) (Keeps f left (t.thread.who ∷ ws)) (λ e. keeps_off t.thread.who (λ n l.
       takes.closed t.thread.who.path n e) m) (λ e. keeps_one t.thread.who e m)
 
   whos_cond : (b : Bool) (t : Task) (ts us : List Task) → whos us ≡ whos ts → whos (cond b us (t ∷ us)) ≡ cond b (whos ts) (t.thread.who

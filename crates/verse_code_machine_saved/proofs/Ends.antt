@@ -22,10 +22,11 @@ use Rattle.verse_code_machine.specs.Ends.{is_run}
 use Rattle.verse_code_machine.specs.Ends.{with_did, joined, climbs, part_ends, root_ends, role_ends, ends_role, ends, returns_role, returns}
 use Rattle.verse_code_machine.specs.Ends.{follows, cleared, is_asleep, woken, woken_in}
 use Rattle.verse_code_machine.specs.Runs.{Forest}
+use Rattle.verse_code_machine.proofs.Paths.{same_is}
 use Rattle.verse_code_machine_saved.specs.Numbers.{Numbering, Prior, WakingRenumbered, path_as, handlers_as, frame_as, frames_as, who_as}
 use Rattle.verse_code_machine_saved.specs.Numbers.{thread_as, parts_as, rest_as, task_as, tasks_as, trees_as, after_as, ups_as, world_as}
 use Rattle.verse_code_machine_saved.specs.Numbers.{SameTest}
-use Rattle.verse_code_machine_saved.proofs.Numbers.{cancelled_as, since_as, arms_as, path_end, same_as, eqn_number, path_is}
+use Rattle.verse_code_machine_saved.proofs.Numbers.{cancelled_as, since_as, arms_as, path_end, same_as, eqn_number}
 use Rattle.verse_code_machine_saved.proofs.Settings.{Setting, S, Is, steps_is, draws_is, result_is, RestIs, TreesAre, WorldIs, Others}
 use Rattle.verse_code_machine_saved.proofs.Settings.{others, Same, over, onto_are, trees_are, without_are, plain, all_trees}
 
@@ -274,7 +275,7 @@ module _ (k : Setting) where
   climbs_same up n v pre [] trees s h b = over k
   climbs_same up n v pre (y ∷ post) trees s h b = same_if _ _ _ _ _ _ (same_as R k.apart up y.thread.who.path)
       (λ e. subst (λ a. Same k (joined n v y.rest y pre post trees s) (joined (R a n) v (rest_as R y.thread.who.path y.rest) (task_as Z y)
-      (tasks_as Z pre) (tasks_as Z post) (world_as Z (world pre post [] trees)).trees (T s))) (sym (path_is up y.thread.who.path e))
+      (tasks_as Z pre) (tasks_as Z post) (world_as Z (world pre post [] trees)).trees (T s))) (sym (same_is up y.thread.who.path e))
       (joined_same n v y.rest y pre post trees s h b.post.0 (others k b.pre b.post.1 tt b.before b.behind)))
       (climbs_same up n v (y ∷ pre) post trees s h (others k (b.post.0, b.pre) b.post.1 tt b.before b.behind))
 

@@ -13,6 +13,7 @@ use Rattle.verse_meaning_state.specs.Turns.{Stage, going, closed, broken, amiss,
 use Rattle.verse_code_machine.specs.Tasks.{Step, Next, Over, Turn, tree_waits}
 use Rattle.verse_code_machine.specs.Runs.{Forest, stage_of, turn_taken, started, mach_after}
 use Rattle.verse_code_machine.specs.Laws.{IsOver, RunsEnd}
+use Rattle.verse_code_machine.proofs.Whole.{over_turns}
 use Rattle.verse_code_machine_saved.specs.Horizons.{after_from, HorizonMoves, HorizonMovesAgain}
 
 -- it did not end at a horizon
@@ -96,13 +97,6 @@ module _ (a b : State → Forest → Stage Forest) (or : (s : State) (tss : Fore
   stood (suc k) (closed x t uss) s tss o e = absurd (not_stopped x t uss s tss o e)
   stood (suc k) (broken x t) s tss o e = grind (arith, e)
   stood (suc k) (amiss t) s tss o e = grind (arith, e)
-
-over_turns : (take : State → Forest → Stage Forest) (j : ℕ) (g : Stage Forest) → IsOver g → turns take j g ≡ g
-over_turns take zero g h = refl
-over_turns take (suc j) (going s tss) h = absurd h
-over_turns take (suc j) (closed e s tss) h = refl
-over_turns take (suc j) (broken e s) h = refl
-over_turns take (suc j) (amiss s) h = refl
 
 none : (j : ℕ) → j ≡ 0 + j
 none j = omega arith

@@ -9,4 +9,4 @@ mod Acts
 pub mod Runs
 mod Resumed
 pub mod Paired
-mod Tables
+pub mod Tables

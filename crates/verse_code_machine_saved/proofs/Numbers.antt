@@ -1,30 +1,12 @@
 -- Tests of paths and what is cancelled, under other numbers.
-use Rattle.std.proofs.Common.{◌≡◌, ℕ, zero, suc, ◌≤◌, ◌<◌, List, [], ◌∷◌, ◌++◌, Bool, true, false, cond, refl, sym, ap, ◌∙◌, arith, subst}
+use Rattle.std.proofs.Common.{◌≡◌, ℕ, zero, suc, ◌<◌, List, [], ◌∷◌, ◌++◌, Bool, true, false, cond, refl, sym, ap, ◌∙◌, arith, subst}
+use Rattle.std.proofs.Common.{append-nil}
 use Rattle.verse_meaning_state.specs.Waits.{eqn, ltn}
+use Rattle.verse_meaning_state.proofs.Numbers.{eqn_is, eqn_same, eqn_not, ltn_yes, ltn_no}
 use Rattle.verse_code_machine.specs.Tasks.{Part, did, runs, Task, World, world, starts, same_path, since, beneath_arms}
 use Rattle.verse_code_machine.specs.Cancelling.{without, inserted, gone_before, gone_behind, cancelled, world_without}
 use Rattle.verse_code_machine_saved.specs.Numbers.{Numbering, Rises, Prior, path_from, path_as, parts_as, task_as, tasks_as, world_as}
 use Rattle.verse_code_machine_saved.specs.Numbers.{SameTest, CancelledRenumbered, SinceRenumbered, ArmsRenumbered}
-
-pub eqn_same : (n : ℕ) → eqn n n ≡ true
-eqn_same zero = refl
-eqn_same (suc n) = eqn_same n
-
-eqn_other : (n k : ℕ) → (n ≡ k → ⊥) → eqn n k ≡ false
-eqn_other zero zero f = absurd (f refl)
-eqn_other zero (suc k) f = refl
-eqn_other (suc n) zero f = refl
-eqn_other (suc n) (suc k) f = eqn_other n k (λ e. f (ap suc e))
-
-ltn_yes : (n k : ℕ) → n < k → ltn n k ≡ true
-ltn_yes n zero h = absurd (omega (arith, h))
-ltn_yes zero (suc k) h = refl
-ltn_yes (suc n) (suc k) h = ltn_yes n k (omega (arith, h))
-
-pub ltn_no : (n k : ℕ) → k ≤ n → ltn n k ≡ false
-ltn_no n zero h = refl
-ltn_no zero (suc k) h = absurd (omega (arith, h))
-ltn_no (suc n) (suc k) h = ltn_no n k (omega (arith, h))
 
 data Order (n k : ℕ) : Type 0 where
   lower : n < k → Order n k
@@ -45,10 +27,6 @@ order (suc n) (suc k) = up (order n k)
 app_more : (a : List ℕ) (n : ℕ) (x : List ℕ) → (a ++ n ∷ []) ++ x ≡ a ++ n ∷ x
 app_more [] n x = refl
 app_more (b ∷ a) n x = ap (λ y. b ∷ y) (app_more a n x)
-
-app_none : (a : List ℕ) → a ++ [] ≡ a
-app_none [] = refl
-app_none (b ∷ a) = ap (λ y. b ∷ y) (app_none a)
 
 -- no two numbers beneath a path come to one
 abbrev pub IsApart : Numbering → Type 0
@@ -71,9 +49,9 @@ module _ (r : Numbering) (apart : IsApart r) where
   eqn_as a n k = by (order n k)
     where
       by : Order n k → eqn (r a n) (r a k) ≡ eqn n k
-      by (lower h) = eqn_other (r a n) (r a k) (λ e. omega (arith, h, apart a n k e)) ∙ sym (eqn_other n k (λ e. omega (arith, e, h)))
+      by (lower h) = eqn_not (r a n) (r a k) (λ e. omega (arith, h, apart a n k e)) ∙ sym (eqn_not n k (λ e. omega (arith, e, h)))
       by (level h) = subst (λ k. eqn (r a n) (r a k) ≡ eqn n k) h (eqn_same (r a n) ∙ sym (eqn_same n))
-      by (higher h) = eqn_other (r a n) (r a k) (λ e. omega (arith, h, apart a n k e)) ∙ sym (eqn_other n k (λ e. omega (arith, e, h)))
+      by (higher h) = eqn_not (r a n) (r a k) (λ e. omega (arith, h, apart a n k e)) ∙ sym (eqn_not n k (λ e. omega (arith, e, h)))
 
   ltn_as : (a : List ℕ) → RisesAt r a → (n k : ℕ) → ltn (r a n) (r a k) ≡ ltn n k
   ltn_as a rises n k = by (order n k)
@@ -88,12 +66,6 @@ module _ (r : Numbering) (apart : IsApart r) where
   cond_as false false x y u v e f g = g
   cond_as true false x y u v e f g = grind (arith, e)
   cond_as false true x y u v e f g = grind (arith, e)
-
-  eqn_is : (n k : ℕ) → eqn n k ≡ true → n ≡ k
-  eqn_is zero zero h = refl
-  eqn_is zero (suc k) h = grind (arith, h)
-  eqn_is (suc n) zero h = grind (arith, h)
-  eqn_is (suc n) (suc k) h = ap suc (eqn_is n k h)
 
   starts_from : (a x y : List ℕ) → starts (path_from r a x) (path_from r a y) ≡ starts x y
   starts_from a [] y = refl
@@ -113,14 +85,14 @@ module _ (r : Numbering) (apart : IsApart r) where
   since_from : (a x b : List ℕ) → a ++ x ≡ b → RisesAt r b → (n : ℕ) (y : List ℕ) →
       since (path_from r a x) (r b n) (path_from r a y) ≡ since x n y
   since_from a [] b h rises n [] = refl
-  since_from a [] b h rises n (k ∷ y) = subst (λ d. ltn (r d k) (r b n) ≡ ltn k n) (sym h ∙ app_none a) (ltn_as b rises k n)
+  since_from a [] b h rises n (k ∷ y) = subst (λ d. ltn (r d k) (r b n) ≡ ltn k n) (sym h ∙ append-nil a) (ltn_as b rises k n)
   since_from a (i ∷ x) b h rises n [] = refl
   since_from a (i ∷ x) b h rises n (j ∷ y) = cond_as _ _ _ _ _ _ (eqn_as a i j)
       (λ e. subst (λ k. since (path_from r (a ++ i ∷ []) x) (r b n) (path_from r (a ++ k ∷ []) y) ≡ since x n y) (eqn_is i j
       e) (since_from (a ++ i ∷ []) x b (app_more a i x ∙ h) rises n y)) refl
 
   path_last : (a x : List ℕ) (n : ℕ) → path_from r a (x ++ n ∷ []) ≡ path_from r a x ++ r (a ++ x) n ∷ []
-  path_last a [] n = ap (λ b. r b n ∷ []) (sym (app_none a))
+  path_last a [] n = ap (λ b. r b n ∷ []) (sym (append-nil a))
   path_last a (i ∷ x) n = ap (λ y. r a i ∷ y) (path_last (a ++ i ∷ []) x n ∙ ap (λ b. path_from r (a ++ i ∷ []) x ++ r b n ∷ []) (app_more a
       i x))
 
@@ -199,19 +171,3 @@ same_as r apart x y = same_from r apart [] x y
 
 pub eqn_number : (r : Numbering) → IsApart r → (a : List ℕ) (n k : ℕ) → eqn (r a n) (r a k) ≡ eqn n k
 eqn_number r apart a n k = eqn_as r apart a n k
-
-number_is : (n k : ℕ) → eqn n k ≡ true → n ≡ k
-number_is zero zero h = refl
-number_is zero (suc k) h = grind (arith, h)
-number_is (suc n) zero h = grind (arith, h)
-number_is (suc n) (suc k) h = ap suc (number_is n k h)
-
-pub path_is : (x y : List ℕ) → same_path x y ≡ true → x ≡ y
-path_is [] [] h = refl
-path_is [] (j ∷ y) h = grind (arith, h)
-path_is (i ∷ x) [] h = grind (arith, h)
-path_is (i ∷ x) (j ∷ y) h = at (eqn i j) refl (path_is x y) h
-  where
-    at : (b : Bool) → eqn i j ≡ b → (same_path x y ≡ true → x ≡ y) → cond b (same_path x y) false ≡ true → i ∷ x ≡ j ∷ y
-    at true e f h = ap (λ k. k ∷ x) (number_is i j e) ∙ ap (λ z. j ∷ z) (f h)
-    at false e f h = grind (arith, h)

@@ -4,8 +4,9 @@ use Rattle.std.proofs.Common.{subst}
 use Rattle.std.proofs.lemmas.Bool.Decides.{nat_tests}
 use Rattle.verse_value.specs.declared.runs.Ending.TheVariants as ending
 use Rattle.verse_meaning_state.specs.State.{State, Given, Signal, spending, at_moment}
-use Rattle.verse_meaning_state.specs.Waits.{Wait, eqn, ltn, nth, given_by, due_of, Due, first_signal, least, sooner, sooner_of}
+use Rattle.verse_meaning_state.specs.Waits.{Wait, eqn, ltn, nth, given_by, due_of, Due, first_signal, least, sooner_of}
 use Rattle.verse_meaning_state.specs.Turns.{Stage, closed, turn, turn_at}
+use Rattle.verse_meaning_state.proofs.Dues.{DueBehind, sooner_behind}
 use Rattle.verse_code_machine.specs.Tasks.{tree_waits}
 use Rattle.verse_code_machine.specs.Runs.{Forest}
 use Rattle.verse_code_machine_saved.specs.Horizons.{NoLater, NoResultLater, Unheard, Undone, NoneReached}
@@ -18,23 +19,6 @@ Behind m (Some g) = m < g.moment
 abbrev AllBehind : ℕ → State → List Wait → Type 0
 AllBehind m s [] = Unit {0}
 AllBehind m s (w ∷ ws) = Behind m (due_of s w.number w.cause) × AllBehind m s ws
-
-abbrev DueBehind : ℕ → Option Due → Type 0
-DueBehind m None = Unit {0}
-DueBehind m (Some d) = m < d.given.moment
-
-sooner_behind : (m n : ℕ) (g : Given) (o : Option Due) → DueBehind m (sooner n g o) → (m < g.moment) × DueBehind m o
-sooner_behind m n g None h = (h, tt)
-sooner_behind m n g (Some d) h =
-    at (nat_lt d.given.moment g.moment) (nat_lt g.moment d.given.moment) (nat_lt d.number n) refl refl h
-  where
-    at : (a b c : Bool) → nat_lt d.given.moment g.moment ≡ a → nat_lt g.moment d.given.moment ≡ b →
-        DueBehind m (cond a (Some d) (cond b (Some (record { number = n; given = g }))
-        (cond c (Some d) (Some (record { number = n; given = g }))))) → (m < g.moment) × (m < d.given.moment)
-    at true b c e f h = (grind (arith, nat_tests, e, h), h)
-    at false true c e f h = (h, grind (arith, nat_tests, f, h))
-    at false false true e f h = (grind (arith, nat_tests, e, f, h), h)
-    at false false false e f h = (h, grind (arith, nat_tests, e, f, h))
 
 of_behind : (m n : ℕ) (g : Option Given) (o : Option Due) → DueBehind m (sooner_of n g o) → Behind m g × DueBehind m o
 of_behind m n None o h = (tt, h)

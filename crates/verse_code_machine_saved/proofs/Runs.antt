@@ -10,6 +10,7 @@ use Rattle.verse_value.specs.declared.runs.Ending.TheVariants as ending
 use Rattle.verse_meaning_state.specs.State.{State, Signal, spending, stepped, at_moment}
 use Rattle.verse_meaning_state.specs.Waits.{Wait, Due, eqn, ltn, heard, first_signal, least}
 use Rattle.verse_meaning_state.specs.Turns.{Stage, going, closed, broken, amiss, turn, turn_at, turns, run_of, run_closed}
+use Rattle.verse_meaning_state.proofs.Numbers.{ltn_no}
 use Rattle.verse_code_machine.specs.Tasks.{Rest, asleep, group, Task, Machine, Step, Next, Over, Turn, waits_with, waits_of, tree_waits}
 use Rattle.verse_code_machine.specs.Ends.{woken_in}
 use Rattle.verse_code_machine.specs.Runs.{Forest, step, carried, room, stage_of, turn_taken}
@@ -17,7 +18,7 @@ use Rattle.verse_code_machine.specs.Laws.{IsOver}
 use Rattle.verse_code_machine_saved.specs.Horizons.{after_from, run_from, Unheard, NoneNewer}
 use Rattle.verse_code_machine_saved.specs.Numbers.{Numbering, Prior, Rises, Fixed, Counts, state_as, trees_as, renumbered, RunRenumbered}
 use Rattle.verse_code_machine_saved.specs.Resuming.{behind, RunBehind}
-use Rattle.verse_code_machine_saved.proofs.Numbers.{ltn_no, rising_apart}
+use Rattle.verse_code_machine_saved.proofs.Numbers.{rising_apart}
 use Rattle.verse_code_machine_saved.proofs.Signals.{signals_unheard}
 use Rattle.verse_code_machine_saved.proofs.Settings.{Setting, S, Is, steps_is, RestIs, TasksAre, TreesAre, Same}
 use Rattle.verse_code_machine_saved.proofs.Ends.{waits_same, woken_in_same}

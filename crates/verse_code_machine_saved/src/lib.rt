@@ -3,6 +3,9 @@
 //! `Numbers` a run seen from another, in which tasks have other numbers and signals and lines stand
 //! before; `Resuming` what is kept and the laws of resumed runs; `Pairing` trees that differ in
 //! their numbers alone.
+//!
+//! The public lemmas, which crates above cite, are those of `proofs/Numbers`, `proofs/Settings` and
+//! `proofs/Tables`.
 #![tactic(auto)]
 
 ghost use Rattle.verse_code_machine_saved.specs.Horizons.{HorizonMoves, HorizonMovesAgain};

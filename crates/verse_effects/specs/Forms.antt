@@ -3,6 +3,7 @@ use Rattle.std.specs.Prelude.{ℕ, Bool, true, false, cond, not, ◌&&◌, ◌||
 use Rattle.std.specs.Prelude.{Some, None, slice_get}
 use Rattle.verse_tree.specs.Tree.{Tree, tree, Shape}
 use Rattle.verse_tree.specs.Tree as t
+use Rattle.verse_tree.specs.FieldLists.{any_var}
 use Rattle.verse_tree.specs.declared.tables.Names.{Names}
 use Rattle.verse_tree.specs.declared.tables.FieldInfo.{FieldInfo}
 use Rattle.verse_tree.specs.declared.tables.ClassInfo.{ClassInfo}
@@ -113,10 +114,6 @@ is_variable k vars None = false
 -- the node with this number reads a variable
 abbrev pub reads : Names → List Bool → Around → ℕ → Bool
 reads k vars w n = is_variable k vars (ref_at k n) && not (is_on_path w.used)
-
-abbrev pub any_var : List FieldInfo → Bool
-any_var [] = false
-any_var (f ∷ fs) = cond f.is_var true (any_var fs)
 
 -- an instance of the class is told from others: it can be changed, or is unique
 abbrev pub is_shared_class : Option ClassInfo → Bool

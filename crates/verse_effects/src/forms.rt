@@ -8,7 +8,8 @@ ghost use Rattle.verse_effects.specs.Forms as f;
 use crate::callees::{Callee, callee_of, ref_at};
 use verse_rules_walk::arounds::{Around, Used};
 use verse_tree::exprs::{Expr, Form, Operator};
-use verse_tree::tables::{FieldInfo, Names, Ref};
+use verse_tree::fields::FieldList;
+use verse_tree::tables::{Names, Ref};
 
 /// Whether a node is on the path of the target of a `set`.
 fn is_on_path(used: Used<'_>) -> bool
@@ -119,11 +120,11 @@ fn is_var_field(names: &Names, class: u32, field: u32) -> bool
 {
     match names.classes.get(class as usize) {
         None => false,
-        Some(info) => is_var_at(info.fields.as_slice(), field),
+        Some(info) => is_var_at(&info.fields, field),
     }
 }
 
-fn is_var_at(fields: &[FieldInfo], field: u32) -> bool
+fn is_var_at(fields: &FieldList, field: u32) -> bool
     ensures { result ≡ f.is_var_field (slice_get fields.now field) }
 {
     match fields.get(field as usize) {
@@ -158,23 +159,12 @@ fn does_read(names: &Names, vars: &[bool], around: Around<'_>, node: u32) -> boo
     is_variable(names, vars, ref_at(names, node)) && !is_on_path(around.used)
 }
 
-fn has_var(fields: &[FieldInfo]) -> bool
-    ensures { result ≡ f.any_var fields.now }
-{
-    'fields: for field in fields {
-        if field.is_var {
-            return true;
-        }
-    }
-    false
-}
-
 fn is_shared_class(names: &Names, class: u32) -> bool
     ensures { result ≡ f.is_shared_class (slice_get names.now.classes class) }
 {
     match names.classes.get(class as usize) {
         None => false,
-        Some(info) => info.is_unique || has_var(info.fields.as_slice()),
+        Some(info) => info.is_unique || info.fields.has_var(),
     }
 }
 

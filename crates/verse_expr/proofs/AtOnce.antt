@@ -33,9 +33,10 @@ use Rattle.verse_grammar.specs.Symbols.{closed, until}
 use Rattle.verse_grammar.specs.Reading.{Eats, eats_tok, eats_rule, EatsRule, eats_takes, eats_becomes, Sticks, sticks_here}
 use Rattle.verse_grammar.specs.Reading.{sticks_behind_tok, sticks_in_rule, sticks_behind_rule, SticksRule, sticks_refused, sticks_takes}
 use Rattle.verse_grammar.specs.Reading.{sticks_becomes}
-use Rattle.verse_grammar.proofs.Sights.{same_kind, seen}
+use Rattle.verse_grammar.proofs.Sights.{seen}
 use Rattle.verse_grammar.proofs.Moves.{becomes_becomes, takes_becomes, takes_refuses, becomes_refuses}
 use Rattle.verse_grammar.proofs.Local.{rule_within}
+use Rattle.verse_grammar.proofs.ByExpr.{seen_ahead}
 use Rattle.verse_expr.proofs.Suffixes.{stuck_inside}
 
 no_toks : {k : Tok} {ks : List Tok} → k ∷ ks ≡ [] → ⊥
@@ -227,10 +228,6 @@ behind_a_name : Calms (rule name_rest ∷ rule postfix_tail ∷ rule (chain_tail
 behind_a_name = one_more name_rest_calm (one_more postfix_tail_calm
     (one_more (chain_tail_calm p.Product) (one_more (chain_tail_calm p.Sum) behind_a_sum)))
 
-seen_ahead : (kind : TokKind) (ks : List Tok) → sees kind ks ≡ true → ahead ks ≡ Some kind
-seen_ahead kind [] h = absurd (cc)
-seen_ahead kind (k ∷ ks) h = ap Some (same_kind k.kind kind h)
-
 abbrev CalmIf : List Tok → Bool → Move → Move → Type 0
 CalmIf ks x M N = (r : Rule) → predict r ks ≡ (if x then M else N) → CalmAt ks r
 
@@ -326,22 +323,19 @@ when_true : (r : Rule) (ks : List Tok) (M N : Move) (x : Bool) → x ≡ true �
 when_true r ks M N true h g = g
 when_true r ks M N false h g = absurd (cc)
 
-is_seen : (kind : TokKind) (k : Tok) (ks : List Tok) → k.kind ≡ kind → sees kind (k ∷ ks) ≡ true
-is_seen kind k ks h = seen kind k ks h
-
 expr_begun : (k : Tok) (ks : List Tok) → Begin k.kind → CalmAt (k ∷ ks) (phrase p.Expr)
 expr_begun k ks (by_if e) =
     let g : predict (phrase p.Expr) (k ∷ ks) ≡ becomes (rule an_if ∷ []) =
-    when_true (phrase p.Expr) (k ∷ ks) _ _ (sees (word w.If) (k ∷ ks)) (is_seen (word w.If) k ks e) refl in
+    when_true (phrase p.Expr) (k ∷ ks) _ _ (sees (word w.If) (k ∷ ks)) (seen (word w.If) k ks e) refl in
     let f : CalmAt (k ∷ ks) an_if = calm_becomes refl (calms_tok (ap Some e)) in
     calm_becomes g (calms_rule f calms_none)
 expr_begun k ks (by_not e) =
     let g : predict (phrase p.Not) (k ∷ ks) ≡ takes (rule (phrase p.Not) ∷ []) =
-    when_true (phrase p.Not) (k ∷ ks) _ _ (sees (word w.Not) (k ∷ ks)) (is_seen (word w.Not) k ks e) refl in
+    when_true (phrase p.Not) (k ∷ ks) _ _ (sees (word w.Not) (k ∷ ks)) (seen (word w.Not) k ks e) refl in
     expr_of_not (k ∷ ks) (calm_takes g)
 expr_begun k ks (by_minus e) =
     let g : predict (phrase p.Minus) (k ∷ ks) ≡ takes (rule (phrase p.Minus) ∷ []) =
-    when_true (phrase p.Minus) (k ∷ ks) _ _ (sees (mark m.Minus) (k ∷ ks)) (is_seen (mark m.Minus) k ks e) refl in
+    when_true (phrase p.Minus) (k ∷ ks) _ _ (sees (mark m.Minus) (k ∷ ks)) (seen (mark m.Minus) k ks e) refl in
     expr_of_not (k ∷ ks) (not_of_minus (k ∷ ks) (calm_takes g))
 expr_begun k ks (by_primary_form e) =
     let f : CalmAt (k ∷ ks) (phrase p.Primary) = calm_by refl (primary_takes (primary_start k.kind) e) in

@@ -184,7 +184,7 @@ skipped eats_none = refl
 stuck_nowhere : {ks : List Tok} {left : ℕ} → Sticks [] ks left → ⊥
 stuck_nowhere s = elim s [ ]
 
-seen_ahead : (kind : TokKind) (ks : List Tok) → sees kind ks ≡ true → ahead ks ≡ Some kind
+pub seen_ahead : (kind : TokKind) (ks : List Tok) → sees kind ks ≡ true → ahead ks ≡ Some kind
 seen_ahead kind [] h = absurd (cc)
 seen_ahead kind (k ∷ ks) h = ap Some (same_kind k.kind kind h)
 

@@ -1,7 +1,7 @@
 -- The first tok is of a kind exactly where the test says so.
-use Rattle.std.proofs.Common.{◌≡◌, ◌≢◌, ℕ, ◌==◌, ℤ, pos, negsuc, Bool, true, false, ◌&&◌, nat_lt, if◌then◌else◌, List, [], ◌∷◌, Option}
+use Rattle.std.proofs.Common.{◌≡◌, ◌≢◌, ℕ, ◌==◌, ℤ, pos, negsuc, true, false, nat_lt, if◌then◌else◌, List, [], ◌∷◌, Option}
 use Rattle.std.proofs.Common.{Some, None, refl, sym, ap, subst, ◌∙◌, ◌⊎◌, inl, inr}
-use Rattle.std.proofs.lemmas.Bool.{eqb-true, eq-eqb}
+use Rattle.std.proofs.lemmas.Bool.{eqb-true, eq-eqb, and_parts, false_from_ne_true}
 use Rattle.std.specs.Ordering.{int_eq}
 use Rattle.std.proofs.lemmas.Bool.Decides.{Decides-int_eq}
 use Rattle.verse_lex.specs.declared.tokens.Word.{Word}
@@ -157,11 +157,6 @@ again tok.Open = refl
 again tok.Sep = refl
 again tok.Close = refl
 
-both_true : (x y : Bool) → (x && y) ≡ true → (x ≡ true) × (y ≡ true)
-both_true true true h = (refl, refl)
-both_true true false h = absurd (cc)
-both_true false y h = absurd (cc)
-
 same_value : (x y : ℤ) → int_eq x y ≡ true → x ≡ y
 same_value x y h = (Decides-int_eq x y).0 h
 
@@ -170,7 +165,7 @@ int_eq_refl x = (Decides-int_eq x x).1 refl
 
 pub same_kind : (j k : TokKind) → is_same j k ≡ true → j ≡ k
 same_kind j k h =
-    let b = both_true (code j == code k) (int_eq (value j) (value k)) h in
+    let b = and_parts (code j == code k) (int_eq (value j) (value k)) h in
     sym (again j) ∙ ap (λ n. kind_of n (value j)) (eqb-true (code j) (code k) b.0) ∙
     ap (kind_of (code k)) (same_value (value j) (value k) b.1) ∙ again k
 
@@ -180,10 +175,6 @@ is_same_refl k = rw (eq-eqb (code k) (code k) refl, int_eq_refl (value k)) refl
 pub seen : (kind : TokKind) (k : Tok) (ks : List Tok) → k.kind ≡ kind → sees kind (k ∷ ks) ≡ true
 seen kind k ks h = rw h (is_same_refl kind)
 
-not_true : (x : Bool) → (x ≡ true → ⊥) → x ≡ false
-not_true true h = absurd (h refl)
-not_true false h = refl
-
 pub unseen : (kind : TokKind) (ks : List Tok) → ahead ks ≢ Some kind → sees kind ks ≡ false
 unseen kind [] h = refl
-unseen kind (k ∷ ks) h = not_true (is_same k.kind kind) (λ e. h (ap Some (same_kind k.kind kind e)))
+unseen kind (k ∷ ks) h = false_from_ne_true (is_same k.kind kind) (λ e. h (ap Some (same_kind k.kind kind e)))

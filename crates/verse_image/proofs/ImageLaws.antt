@@ -1,8 +1,8 @@
 -- What is read is an image of the code, what is an image is read, and a code has one image in each version.
-use Rattle.std.proofs.Common.{◌≡◌, ℕ, ◌+◌, ◌≤◌, Bool, true, false, eqb, ◌||◌, ◌⊎◌, inl, inr, List, [], ◌∷◌, ◌++◌, length, All, Ok, refl}
+use Rattle.std.proofs.Common.{◌≡◌, ℕ, ◌+◌, ◌≤◌, true, eqb, ◌||◌, ◌⊎◌, inl, inr, List, [], ◌∷◌, ◌++◌, length, All, Ok, refl}
 use Rattle.std.proofs.Common.{sym, ap, subst, ◌∙◌, arith, eq-eqb}
 use Rattle.std.specs.List.{AllByRecursion}
-use Rattle.std.proofs.lemmas.Bool.{eqb-true}
+use Rattle.std.proofs.lemmas.Bool.{eqb-true, or_cases}
 use Rattle.std.proofs.lemmas.List.Elements.{All-from_recursion, recursion_from_All}
 use Rattle.verse_code.specs.declared.operations.Op.{Op}
 use Rattle.verse_code.specs.declared.codes.Code.{Code}
@@ -37,7 +37,7 @@ letter_take letter left (b ∷ tail) rest fits e =
     subst (λ (r : List ℕ). Marked (letter ∷ []) (b ∷ tail) r) g.1
     (record { spelled = ap (λ (c : ℕ). c ∷ tail) same; fits = rest_bytes b tail fits })
 
-letter_again : (letter left : ℕ) (rest : List ℕ) → letter_at letter left (letter ∷ rest) ≡ Ok rest
+pub letter_again : (letter left : ℕ) (rest : List ℕ) → letter_at letter left (letter ∷ rest) ≡ Ok rest
 unfolding letter_at
 letter_again letter left rest = let t : eqb letter letter ≡ true = eq-eqb letter letter refl in rw t refl
 
@@ -50,13 +50,9 @@ mark_take (letter ∷ letters) left bytes rest fits e =
     let others = mark_take letters left p.0 rest first.fits p.2 in
     record { spelled = first.spelled ∙ ap (λ (w : List ℕ). letter ∷ w) others.spelled; fits = others.fits }
 
-mark_again : (letters : List ℕ) (left : ℕ) (rest : List ℕ) → mark_at letters left (letters ++ rest) ≡ Ok rest
+pub mark_again : (letters : List ℕ) (left : ℕ) (rest : List ℕ) → mark_at letters left (letters ++ rest) ≡ Ok rest
 mark_again [] left rest = refl
 mark_again (letter ∷ letters) left rest = rw (letter_again letter left (letters ++ rest)) (mark_again letters left rest)
-
-or_true : (a b : Bool) → (a || b) ≡ true → (a ≡ true) ⊎ (b ≡ true)
-or_true true b e = inl refl
-or_true false b e = inr e
 
 abbrev IsKnown : ℕ → Type 0
 IsKnown version = (version ≡ 1) ⊎ (version ≡ 2)
@@ -66,7 +62,7 @@ unfolding version_at
 version_take [] x fits e = absurd cc
 version_take (b ∷ tail) x fits e =
     let g = test_ok (eqb b 1 || eqb b 2) (flaw 2 (length (b ∷ tail))) (b, tail) x e in
-    let known : IsKnown b = elim (or_true _ _ g.0) [ inl h ↦ inl (eqb-true b 1 h) | inr h ↦ inr (eqb-true b 2 h) ] in
+    let known : IsKnown b = elim (or_cases _ _ g.0) [ inl h ↦ inl (eqb-true b 1 h) | inr h ↦ inr (eqb-true b 2 h) ] in
     subst (λ (y : ℕ × List ℕ). Takes (byte y.0) (b ∷ tail) y.1 × IsKnown y.0) g.1 (
       record { spelled = refl; fits = rest_bytes b tail fits },
       known,
@@ -315,3 +311,6 @@ image_once version code a b i j = whole a b [] i.spelled j.spelled
     whole =
         once_then (head version code.files (length code.ops) ⨾ tables code) (each operation code.ops)
         (once_then (head version code.files (length code.ops)) (tables code) start tabled) (once_each operation once_operation code.ops)
+
+pub one_code : (bytes : List ℕ) (v w : ℕ) (c d : Code) → Image v c bytes → Image w d bytes → c ≡ d
+one_code bytes v w c d p q = let a = image_again v c bytes p in let b = image_again w d bytes q in cc (a, b)

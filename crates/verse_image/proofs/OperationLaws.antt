@@ -217,14 +217,14 @@ ops_again sizes top at (op ∷ ops) bytes rest t h =
 
 -- ---- one spelling
 
-once_integer : (n : ℤ) → Once (format.integer n)
+pub once_integer : (n : ℤ) → Once (format.integer n)
 once_integer (pos n) a b rest h k = signed_once h.1 k.1
 once_integer (negsuc n) a b rest h k = signed_once h.1 k.1
 
-once_nothing : Once nothing
+pub once_nothing : Once nothing
 once_nothing a b rest h k = h ∙ sym k
 
-once_byte : (n : ℕ) → Once (byte n)
+pub once_byte : (n : ℕ) → Once (byte n)
 once_byte n a b rest h k = h ∙ sym k
 
 once_operands : (xs : Operands) → Once (operands xs)

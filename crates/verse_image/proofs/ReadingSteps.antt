@@ -71,7 +71,7 @@ signed_some most end left bytes lt = let e : most ≡ suc (most - 1) = omega ari
 abbrev pub with_front : {A : Type 0} → List A → Result (List A × List ℕ) Flaw → Result (List A × List ℕ) Flaw
 with_front front read = read >>= λ x. Ok (front ++ x.0, x.1)
 
-regroup : {A : Type 0} (front : List A) (n : A) (read : Result (List A × List ℕ) Flaw) →
+pub regroup : {A : Type 0} (front : List A) (n : A) (read : Result (List A × List ℕ) Flaw) →
     with_front front (read >>= λ x. Ok (n ∷ x.0, x.1)) ≡ with_front (front ++ n ∷ []) read
 regroup front n (Ok x) = ap (λ ns. Ok (ns, x.1)) (sym (append_assoc front (n ∷ []) x.0))
 regroup front n (Err f) = refl

@@ -119,7 +119,7 @@ table_again f one fits again xs bytes rest a h = rw (number_again (length xs) by
 
 -- ---- the parts of a code
 
-bytes_drop : (n : ℕ) (bytes : List ℕ) → IsBytes bytes → IsBytes (drop n bytes)
+pub bytes_drop : (n : ℕ) (bytes : List ℕ) → IsBytes bytes → IsBytes (drop n bytes)
 bytes_drop n bytes h i = rw get_or-drop (h (n + i))
 
 abbrev text_done : List ℕ × List ℕ → Result (List ℕ × List ℕ) Flaw
@@ -195,7 +195,7 @@ flag_back zero lt = refl
 flag_back (suc zero) lt = refl
 flag_back (suc (suc n)) lt = absurd (omega arith)
 
-flag_again : (b : Bool) → eqb (flag b) 1 ≡ b
+pub flag_again : (b : Bool) → eqb (flag b) 1 ≡ b
 flag_again false = refl
 flag_again true = refl
 

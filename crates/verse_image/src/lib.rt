@@ -3,7 +3,8 @@
 //! To be read in this order: `digits`, `pieces`, `encoding`, what is written; `faults`, `numbers`,
 //! `fields`, `tables`, `operations`, `decoding`, what is read; `laws`.
 //!
-//! The public lemmas, which crates above cite, are those of `proofs/ImageLaws`.
+//! The public lemmas, which crates above cite, are those of `proofs/ImageLaws`, `proofs/TableLaws`,
+//! `proofs/OperationLaws` and `proofs/ReadingSteps`.
 #![tactic(auto)]
 
 pub mod decoding;

@@ -1,5 +1,5 @@
 -- The walk's answer is the layout.
-use Rattle.std.proofs.Common.{◌≡◌, ◌≤◌, Bool, true, false, List, [], ◌∷◌, ℕ, Option, Some, None, Result, Ok, Err, IfOk, refl, sym, ◌∙◌, ap}
+use Rattle.std.proofs.Common.{◌≡◌, ◌≤◌, Bool, true, false, List, [], ◌∷◌, ℕ, Option, Some, None, Ok, Err, refl, sym, ◌∙◌, ap}
 use Rattle.std.proofs.Common.{subst, nat_le}
 use Rattle.std.proofs.lemmas.Bool.{leb-true, le-leb}
 use Rattle.verse_base.specs.declared.refusals.Refusal.{Refusal}
@@ -84,7 +84,3 @@ one_layout bytes tokens ks js x y = ok_is (sym (of_layout bytes tokens ks x) ∙
 pub no_layout : (bytes : List ℕ) (tokens : List Token) (r : Refusal) (ks : List Tok) →
     walk_answer (end_of bytes tokens) (cells_of bytes tokens) ≡ Err r → IsLayout bytes tokens ks → ⊥
 no_layout bytes tokens r ks e l = let f = of_layout bytes tokens ks l in absurd (cc)
-
-pub on_ok : {T E : Type 0} {P Q : T → Type 0} (r : Result T E) → ((x : T) → P x → Q x) → IfOk r P → IfOk r Q
-on_ok (Ok x) f h = f x h
-on_ok (Err e) f h = h

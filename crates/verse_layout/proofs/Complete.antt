@@ -1,8 +1,9 @@
 -- The walk of a file that is a block writes the block out.
-use Rattle.std.proofs.Common.{◌≡◌, Bool, true, false, not, ◌||◌, List, [], ◌∷◌, ◌++◌, ℕ, Option, Some, None, refl, sym, ◌∙◌, ap, subst}
+use Rattle.std.proofs.Common.{◌≡◌, Bool, true, false, ◌||◌, List, [], ◌∷◌, ◌++◌, ℕ, Option, Some, None, refl, sym, ◌∙◌, ap, subst}
 use Rattle.std.proofs.Common.{append_assoc, if◌then◌else◌}
 use Rattle.std.specs.Cmp.Lexicographic.{same_text}
 use Rattle.std.proofs.Math.Seq.{take-length}
+use Rattle.std.proofs.lemmas.Bool.{not-true}
 use Rattle.verse_base.specs.declared.places.Place.{Place}
 use Rattle.verse_lex.specs.declared.tokens.Token.{Token}
 use Rattle.verse_layout.specs.declared.frames.Spot.{Spot}
@@ -205,10 +206,6 @@ block_heads (block_more l k) = line_heads l
 pub front_self : (i : List ℕ) → is_front i i ≡ true
 front_self i = ap (λ x. is_same i x) (take-length i) ∙ same_self i
 
-pub not_true : (v : Bool) → not v ≡ true → v ≡ false
-not_true false h = refl
-not_true true h = absurd (cc)
-
 pub not_same : (i j : List ℕ) → is_front i j ≡ false → is_same i j ≡ false
 not_same i j e = by_test (is_same i j) refl
   where
@@ -333,7 +330,7 @@ go_close end j m h b f fs place (c ∷ cs) e g n p = by_test (is_brace_close (ro
     at_line_start r (Some i) l v =
         let k : List Open → Walk = λ gs. write (line_sep c.token) (go_token end i gs (c ∷ cs)) in
         let x : Open = record { region = block_in f.region; text = j; place = place } in
-        let off : is_front j i ≡ false = not_true (is_front j i) v in
+        let off : is_front j i ≡ false = not-true (is_front j i) v in
         let left : go end m (x ∷ f ∷ fs) (c ∷ cs) ≡ leave (x ∷ f ∷ fs) c.token i k =
         go_line end m x (f ∷ fs) c cs i (block_lines f.region) r l in
         let right : go end h (f ∷ fs) (c ∷ cs) ≡ leave (f ∷ fs) c.token i k = go_line end h f fs c cs i e r l in

@@ -157,7 +157,7 @@ pub within_front : (s : Counts) (ks js : List Tok) → IsWithin s (ks ++ js) →
 within_front s [] js w = tt
 within_front s (k ∷ ks) js w = (w.0, within_front (after_tok k s) ks js w.1)
 
-within_at : (s : Counts) (ks js : List Tok) (k : Tok) → IsWithin s (ks ++ k ∷ js) → load (after_tok k (loaded s ks)) ≤ MOST_LOAD
+pub within_at : (s : Counts) (ks js : List Tok) (k : Tok) → IsWithin s (ks ++ k ∷ js) → load (after_tok k (loaded s ks)) ≤ MOST_LOAD
 within_at s [] js k w = w.0
 within_at s (x ∷ ks) js k w = within_at (after_tok x s) ks js k w.1
 

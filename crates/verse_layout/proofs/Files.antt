@@ -2,7 +2,9 @@
 use Rattle.std.proofs.Common.{◌≡◌, Bool, true, false, not, ◌&&◌, ◌||◌, ◌⊎◌, inl, inr, List, [], ◌∷◌, ◌++◌, ℕ, Option, Some, None, refl, sym}
 use Rattle.std.proofs.Common.{◌∙◌, ap, subst, append_assoc}
 use Rattle.std.specs.Cmp.Lexicographic.{same_text}
+use Rattle.std.proofs.lemmas.Bool.{or_cases}
 use Rattle.verse_base.specs.declared.places.Place.{Place}
+use Rattle.verse_base.proofs.Facts.{alone}
 use Rattle.verse_layout.specs.declared.frames.Spot.{Spot}
 use Rattle.verse_layout.specs.declared.roles.Region.{Region}
 use Rattle.verse_layout.specs.declared.roles.Region.TheVariants as region
@@ -46,11 +48,6 @@ start_out end i f fs c cs ws l p e a (start_line {vs = vs} {us = us} g body o q)
 start_out end i f fs c cs ws l p e a (start_round g x s n q) = absurd (cc)
 start_out end i f fs c cs ws l p e a (start_brace s o) = absurd (let x = is_brace _ s in cc)
 
-or_cases : (a b : Bool) → (a || b) ≡ true → (a ≡ true) ⊎ (b ≡ true)
-or_cases true b e = inl refl
-or_cases false true e = inr refl
-or_cases false false e = absurd (cc)
-
 nested_block_lines : (f : Open) (fs : List Open) → is_block f.region ≡ true → Nested (f ∷ fs) →
     (has_lines (region_at fs) ≡ true) × Nested fs
 nested_block_lines f fs e (nested_file g) = absurd (let x = ap is_block g in cc)
@@ -60,11 +57,6 @@ nested_block_lines f fs e (nested_bracket a b n) = absurd (cc)
 leave_end : (b : Bool) (i j : List ℕ) (c : Cell) (cs : List Cell) → c.line ≡ Some i → is_brace_close (role_of c.token.kind) ≡ false →
     is_front j i ≡ false → ends_block b j (c ∷ cs) ≡ true
 leave_end b i j c cs l p e = if_false (is_brace_close (role_of c.token.kind)) b _ p ∙ ap (leaves j) l ∙ ap not e
-
-both_true : (a b : Bool) → (a && not b) ≡ true → (a ≡ true) × (b ≡ false)
-both_true true false e = (refl, refl)
-both_true true true e = absurd (cc)
-both_true false b e = absurd (cc)
 
 -- a line that leaves blocks
 leave_sound : (end : Spot) (i : List ℕ) (fs : List Open) (c : Cell) (cs : List Cell) → Sound end cs → Nested fs →
@@ -80,7 +72,7 @@ leave_sound end i (f ∷ fs) c cs ih n e l p =
     (token_sound end i f fs c cs ih n s))
     (λ a. by_if (Outs end (f ∷ fs) (c ∷ cs)) (is_block f.region && not (is_front f.text i)) _ _
     (λ b. λ s.
-    let x = both_true (is_block f.region) (is_front f.text i) b in
+    let x = alone (is_block f.region) (is_front f.text i) b in
     let y = nested_block_lines f fs x.0 n in
     out_block x.0 (tail_end (leave_end _ i f.text c cs l p x.1)) (leave_sound end i fs c cs ih y.1 y.0 l p s) refl)
     (λ b s. absurd (cc)))

@@ -1,6 +1,7 @@
 -- Each step of a walk passes on to a place, or stops with a refusal and its reason, whatever follows it.
 use Rattle.std.proofs.Common.{◌≡◌, Bool, true, false, not, ◌&&◌, ◌||◌, ◌⊎◌, inl, inr, List, [], ◌∷◌, ◌++◌, ℕ, Option, Some, None, refl, sym}
 use Rattle.std.proofs.Common.{◌∙◌, ap, subst, if◌then◌else◌}
+use Rattle.std.proofs.lemmas.Bool.{and_parts, not-true}
 use Rattle.verse_base.specs.declared.refusals.Rule.{Rule}
 use Rattle.verse_lex.specs.declared.tokens.Token.{Token}
 use Rattle.verse_layout.specs.declared.toks.TokKind.TheVariants as t
@@ -163,11 +164,6 @@ is_a_bracket region.Hole e g = refl
 is_a_bracket region.Brace e g = refl
 is_a_bracket r e g = absurd (cc)
 
-both_is : (a b : Bool) → (a && b) ≡ true → (a ≡ true) × (b ≡ true)
-both_is true true e = (refl, refl)
-both_is true false e = absurd (cc)
-both_is false b e = absurd (cc)
-
 block_no_file : (r : Region) → is_block r ≡ true → is_same_region r region.File ≡ false
 block_no_file region.File e = absurd (cc)
 block_no_file _ e = refl
@@ -288,7 +284,7 @@ close_outcome r (f ∷ fs) token b n =
     (record { frame = f; first = first; region_is = is }) (closed_at r token, tt) (λ x. absurd x) (λ go. refl))
     (λ other. outcome_if (is_same_region r region.Brace && is_same_region f.region region.BraceBlock)
     (λ both.
-    let x = both_is (is_same_region r region.Brace) (is_same_region f.region region.BraceBlock) both in
+    let x = and_parts (is_same_region r region.Brace) (is_same_region f.region region.BraceBlock) both in
     let is : f.region ≡ region.BraceBlock = same_region f.region region.BraceBlock x.1 in
     let first = block_first f fs (ap is_bracket is) in
     after (close_at (spot_of token)) refl (close_at_ending token)
@@ -324,7 +320,7 @@ leave_outcome (f ∷ fs) token text n =
     (here (at_line false text (f ∷ fs)) (fine_shut text (f ∷ fs) n) refl (record { same = refl; well = if_true stays true _ same })))
     (λ other. outcome_if leaves
     (λ both.
-    let block = (both_is (is_block f.region) (not (is_front f.text text)) both).0 in
+    let block = (and_parts (is_block f.region) (not (is_front f.text text)) both).0 in
     let wider : leaves_well (f ∷ fs) text ≡ leaves_well fs text =
     if_false stays true _ other ∙ if_true leaves (leaves_well fs text) false both in
     let first = block_first f fs (block_no_bracket f.region block) in
@@ -354,16 +350,12 @@ bracket_lines region.Square p q = refl
 bracket_lines region.Hole p q = refl
 bracket_lines r p q = absurd (cc)
 
-not_is : (b : Bool) → not b ≡ true → b ≡ false
-not_is true e = absurd (cc)
-not_is false e = refl
-
 round_close : (token : Token) (r : Role) → role_of token.kind ≡ r → is_bracket_close r ≡ true → RoundClose token
 round_close token (role.Closes r) e p = record {
   region = r;
   closes = e;
   lines =
-      bracket_lines r (bracket_of token r (inr e)) (not_is (is_same_region r region.Brace) p);
+      bracket_lines r (bracket_of token r (inr e)) (not-true (is_same_region r region.Brace) p);
 }
 round_close token (role.Opens r) e p = absurd (cc)
 round_close token role.Semicolon e p = absurd (cc)
@@ -476,7 +468,7 @@ fine_stay : (h : Context) → Fine h → Fine (stay false h)
 fine_stay h f = record { nested = f.nested; lines = λ e. absurd (cc) }
 
 fine_opens : (h : Context) (v ends : Bool) → Fine h → (has_lines (region_at h.frames) && ends) ≡ v → Fine (stay v h)
-fine_opens h v ends f e = record { nested = f.nested; lines = λ o. (both_is (has_lines (region_at h.frames)) ends (e ∙ o)).0 }
+fine_opens h v ends f e = record { nested = f.nested; lines = λ o. (and_parts (has_lines (region_at h.frames)) ends (e ∙ o)).0 }
 
 -- a token that is no bracket
 plain : {ends ok : Bool} (c : Cell) (w : Written) (v : Bool) (h : Context) → Fine (stay v h) →
@@ -500,7 +492,7 @@ never e = absurd (cc)
 
 opener_both : (ends : Bool) (h : Context) (c : Cell) → is_opener (role_of c.token.kind) ≡ true → (v : Bool) →
     (has_lines (region_at h.frames) && ends) ≡ v → v ≡ true → (ends ≡ true) × (is_opener (role_of c.token.kind) ≡ true)
-opener_both ends h c p v e o = ((both_is (has_lines (region_at h.frames)) ends (e ∙ o)).1, p)
+opener_both ends h c p v e o = ((and_parts (has_lines (region_at h.frames)) ends (e ∙ o)).1, p)
 
 colon_passes : (h : Context) (c : Cell) (ok v ends : Bool) → Fine h → role_of c.token.kind ≡ role.Colon → ok ≡ true →
     (has_lines (region_at h.frames) && ends) ≡ v → Passes ends c ok h (λ go. after_colon v c.token (go (stay v h)))

@@ -88,7 +88,7 @@ bounded_err s (k ∷ ks) stop r e = by_test (nat_le (load (after_tok k s)) MOST_
 file_stop : {end : Spot} {cs : List Cell} {ws : List Written} → IsFile end cs ws → (walk end file_start cs).stop ≡ None
 file_stop f = ap (λ (x : Walk). x.stop) (file_walk f)
 
-same_line : (cs others : List Cell) → SameLine cs others others
+pub same_line : (cs others : List Cell) → SameLine cs others others
 same_line [] others = tt
 same_line (c ∷ cs) others = refl
 

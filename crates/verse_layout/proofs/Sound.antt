@@ -1,6 +1,8 @@
 -- What a walk writes to the file's end is a block: one token.
 use Rattle.std.proofs.Common.{◌≡◌, Bool, true, false, not, ◌&&◌, ◌⊎◌, inl, inr, List, [], ◌∷◌, ◌++◌, ℕ, None, refl, sym, ◌∙◌, ap, subst}
 use Rattle.std.proofs.Common.{append_assoc, if◌then◌else◌}
+use Rattle.std.proofs.lemmas.Bool.{and_parts}
+use Rattle.verse_base.proofs.Facts.{not_second}
 use Rattle.verse_layout.specs.declared.frames.Spot.{Spot}
 use Rattle.verse_layout.specs.declared.toks.TokKind.TheVariants as t
 use Rattle.verse_layout.specs.declared.roles.Role.{Role}
@@ -78,35 +80,25 @@ opened_start end h f fs c cs ws r p q e g x =
     opens a (inl b) = ap is_opener (a ∙ b)
     opens a (inr b) = ap is_opener (a ∙ b)
 
-both : (a b : Bool) → (a && b) ≡ true → (a ≡ true) × (b ≡ true)
-both true true e = (refl, refl)
-both true false e = absurd (cc)
-both false b e = absurd (cc)
-
-not_both : (a b : Bool) → (a && b) ≡ false → a ≡ true → b ≡ false
-not_both true false e f = refl
-not_both true true e f = absurd (cc)
-not_both false b e f = absurd (cc)
-
 not_is : (b : Bool) → b ≡ false → not b ≡ true
 not_is b e = ap not e
 
 colon_sound : (end : Spot) (h : List ℕ) (f : Open) (fs : List Open) (c : Cell) (cs : List Cell) → Sound end cs → Nested (f ∷ fs) →
     role_of c.token.kind ≡ role.Colon → (v : Bool) → (has_lines f.region && ends_line cs) ≡ v →
     Starts end h (f ∷ fs) (c ∷ cs) (after_colon v c.token (walk end (at_line v h (f ∷ fs)) cs))
-colon_sound end h f fs c cs ih n p true e = λ s. let x = both _ _ e in
+colon_sound end h f fs c cs ih n p true e = λ s. let x = and_parts _ _ e in
     opened_start end h f fs c cs _ role.Colon p (inl refl) x.0 x.1 (ih true h (f ∷ fs) n s)
 colon_sound end h f fs c cs ih n p false e = λ s.
-    add_part (tok (passed c.token)) (λ l. part_token (ap (stays (in_braces f.region) (ends_line cs)) p ∙ not_is _ (not_both _ _ e l)))
+    add_part (tok (passed c.token)) (λ l. part_token (ap (stays (in_braces f.region) (ends_line cs)) p ∙ not_is _ (not_second _ _ e l)))
     (λ l. inside_any c cs (no_bracket _ _ p refl)) (ih false h (f ∷ fs) n s)
 
 equals_sound : (end : Spot) (h : List ℕ) (f : Open) (fs : List Open) (c : Cell) (cs : List Cell) → Sound end cs → Nested (f ∷ fs) →
     role_of c.token.kind ≡ role.Equals → (v : Bool) → (has_lines f.region && ends_line cs) ≡ v →
     Starts end h (f ∷ fs) (c ∷ cs) (write (tok (passed c.token)) (walk end (at_line v h (f ∷ fs)) cs))
-equals_sound end h f fs c cs ih n p true e = λ s. let x = both _ _ e in
+equals_sound end h f fs c cs ih n p true e = λ s. let x = and_parts _ _ e in
     opened_start end h f fs c cs _ role.Equals p (inr refl) x.0 x.1 (ih true h (f ∷ fs) n s)
 equals_sound end h f fs c cs ih n p false e = λ s.
-    add_part (tok (passed c.token)) (λ l. part_token (ap (stays (in_braces f.region) (ends_line cs)) p ∙ not_is _ (not_both _ _ e l)))
+    add_part (tok (passed c.token)) (λ l. part_token (ap (stays (in_braces f.region) (ends_line cs)) p ∙ not_is _ (not_second _ _ e l)))
     (λ l. inside_any c cs (no_bracket _ _ p refl)) (ih false h (f ∷ fs) n s)
 
 -- an opening bracket
@@ -162,7 +154,8 @@ round_close end h r f fs c cs ih n e p =
     subst (λ k. Start end h (f ∷ fs) (c ∷ cs) (tok k ∷ (walk end (at_line false f.text fs) cs).written))
     (sym (if_false (is_same_region r region.Brace) (tok_as t.Close c.token) (passed c.token) (no_brace r e))) start)
     (λ other. by_if (Starts end h (f ∷ fs) (c ∷ cs)) (is_same_region r region.Brace && is_same_region f.region region.BraceBlock) _ _
-    (λ b. let x = both (is_same_region r region.Brace) (is_same_region f.region region.BraceBlock) b in let y = no_brace r e in absurd (cc))
+    (λ b. let x = and_parts (is_same_region r region.Brace) (is_same_region f.region region.BraceBlock) b in let y = no_brace r e in
+    absurd (cc))
     (λ b s. absurd (cc)))
 
 block_end : (b : Bool) (i : List ℕ) (c : Cell) (cs : List Cell) → role_of c.token.kind ≡ role.Closes region.Brace → b ≡ true →

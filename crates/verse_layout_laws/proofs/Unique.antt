@@ -1,7 +1,6 @@
 -- At most one refusal holds of a list of tokens, and none of one that has a layout.
-use Rattle.std.proofs.Common.{◌≡◌, ◌<◌, ◌≤◌, Bool, true, false, List, [], ◌∷◌, ◌++◌, ℕ, refl, sym, ◌∙◌, ap, subst, append_assoc, append-nil}
+use Rattle.std.proofs.Common.{◌≡◌, ◌<◌, Bool, true, false, List, [], ◌∷◌, ◌++◌, ℕ, refl, sym, ◌∙◌, ap, subst, append_assoc, append-nil}
 use Rattle.std.proofs.Common.{arith}
-use Rattle.verse_base.specs.declared.limits.TheConstants.{MOST_LOAD}
 use Rattle.verse_base.specs.declared.refusals.Refusal.{Refusal}
 use Rattle.verse_base.specs.declared.refusals.Rule.{Rule}
 use Rattle.verse_lex.specs.declared.tokens.Token.{Token}
@@ -12,16 +11,18 @@ use Rattle.verse_layout.specs.declared.roles.Region.TheVariants as region
 use Rattle.verse_layout.specs.declared.roles.Role.TheVariants as role
 use Rattle.verse_layout.specs.declared.rules.TheConstants.{BRACKET, NESTING}
 use Rattle.verse_layout.specs.Roles.{role_of, has_lines, is_brace_close}
-use Rattle.verse_layout.specs.Loads.{Counts, load, after_tok, at_start}
+use Rattle.verse_layout.specs.Loads.{at_start}
 use Rattle.verse_layout.specs.Cells.{Cell, cells_of}
 use Rattle.verse_layout.specs.Written.{Written, Spaced, refusal}
 use Rattle.verse_layout.specs.Blocks.{IsFile}
 use Rattle.verse_layout.specs.Layouts.{IsWithin, IsLayout, end_of}
 use Rattle.verse_layout.specs.Refusals.{BeginsFile, BreaksAt, wrong_brace, wrong_bracket, wrong_line, no_block, BreaksEnd, open_bracket}
-use Rattle.verse_layout.specs.Refusals.{no_block_behind, SameLine, GoesOn, Shares, AllWithin, IsTooDeep, loaded, Refuses, at_token}
+use Rattle.verse_layout.specs.Refusals.{no_block_behind, SameLine, GoesOn, Shares, AllWithin, IsTooDeep, Refuses, at_token}
 use Rattle.verse_layout.specs.Refusals.{at_file_end, too_deep}
 use Rattle.verse_layout.proofs.OpenBrackets.{Splits, first_shorter, first_longer, splits, balanced_innermost, one_innermost}
 use Rattle.verse_layout.proofs.Spacing.{is_spaced}
+use Rattle.verse_layout.proofs.Refused.{same_line}
+use Rattle.verse_layout.proofs.Depth.{within_at, within_front}
 use Rattle.verse_layout_laws.specs.Laws.{OneRefusal, LaidOrRefused}
 
 -- fewer tokens begin a file too
@@ -113,10 +114,6 @@ longer_shares : (front behind mid others : List Cell) (ks : List Tok) → behind
 longer_shares front behind mid others ks e s end rest ws js line block out =
     s end (mid ++ rest) ws js (subst (SameLine front (mid ++ rest)) (sym e) (longer_line front mid rest others line))
     (subst (λ xs. IsFile end xs ws) (append_assoc front mid rest) block) out
-
-within_at : (s : Counts) (ks js : List Tok) (k : Tok) → IsWithin s (ks ++ k ∷ js) → load (after_tok k (loaded s ks)) ≤ MOST_LOAD
-within_at s [] js k w = w.0
-within_at s (x ∷ ks) js k w = within_at (after_tok x s) ks js k w.1
 
 not_within : (ks : List Tok) (r : Refusal) → IsTooDeep at_start ks r → IsWithin at_start ks → ⊥
 not_within ks r d w = let h = within_at at_start d.before d.behind d.tok (subst (IsWithin at_start) d.split w) in let over = d.above in
@@ -223,14 +220,6 @@ one_refuses end cs r s (too_deep front rest ks f g a d) (too_deep head tail js e
 pub one_refusal : OneRefusal
 one_refusal bytes tokens r s x y = one_refuses (end_of bytes tokens) (cells_of bytes tokens) r s x y
 
-same_line : (cs others : List Cell) → SameLine cs others others
-same_line [] others = tt
-same_line (c ∷ cs) others = refl
-
-front_within : (s : Counts) (ks js : List Tok) → IsWithin s (ks ++ js) → IsWithin s ks
-front_within s [] js w = tt
-front_within s (k ∷ ks) js w = (w.0, front_within (after_tok k s) ks js w.1)
-
 record IsLayoutOf (end : Spot) (cs : List Cell) (written : List Written) (ks : List Tok) : Type 0 where
   block : IsFile end cs written
   out : Spaced written ks
@@ -244,7 +233,7 @@ no_refusal end cs written ks r l (at_token before behind c rule e b n w x p) =
 no_refusal end cs written ks r l (at_file_end b n w x) = n written l.block
 no_refusal end cs written ks r l (too_deep front rest js e g a d) =
     let x = a end rest written ks (same_line front rest) (subst (λ xs. IsFile end xs written) e l.block) l.out in
-    not_within js r d (front_within at_start js x.0 (subst (IsWithin at_start) x.1 l.within))
+    not_within js r d (within_front at_start js x.0 (subst (IsWithin at_start) x.1 l.within))
 
 pub laid_or_refused : LaidOrRefused
 laid_or_refused bytes tokens ks r l x =

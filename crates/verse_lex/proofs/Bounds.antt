@@ -1,8 +1,9 @@
 -- Runs have bytes, and no more than there are.
-use Rattle.std.proofs.Common.{◌≡◌, ℕ, zero, suc, ◌+◌, ◌<◌, ◌≤◌, Bool, true, false, ◌&&◌, List, [], ◌∷◌, length, take, drop, refl, arith}
+use Rattle.std.proofs.Common.{◌≡◌, ℕ, zero, suc, ◌+◌, ◌<◌, ◌≤◌, Bool, true, List, [], ◌∷◌, length, take, drop, refl, arith}
 use Rattle.std.proofs.Common.{length-take, length-drop}
 use Rattle.std.proofs.lemmas.List.Sums.{take_while-cons}
 use Rattle.std.proofs.lemmas.Bool.Decides.{nat_tests}
+use Rattle.std.proofs.lemmas.Bool.{and_parts}
 use Rattle.verse_lex.specs.Bytes.{is_digit, is_hex_digit, in_name, in_line, letter_at, digit_at, is_at, run}
 use Rattle.verse_lex.specs.Pieces.{is_hexadecimal, has_fraction}
 
@@ -39,18 +40,14 @@ at_within [] n b h = absurd (cc)
 at_within (c ∷ bs) zero b h = omega arith
 at_within (c ∷ bs) (suc n) b h = omega (arith, at_within bs n b h)
 
-both : (a b : Bool) → (a && b) ≡ true → (a ≡ true) × (b ≡ true)
-both true b h = (refl, h)
-both false b h = absurd (cc)
-
 pub hex_within : (bs : List ℕ) → is_hexadecimal bs ≡ true → run is_hex_digit (drop 2 bs) + 2 ≤ length bs
 hex_within bs h =
-    let x : is_at bs 1 120 ≡ true = (both _ _ (both _ _ h).1).0 in
+    let x : is_at bs 1 120 ≡ true = (and_parts _ _ (and_parts _ _ h).1).0 in
     omega (arith, at_within bs 1 120 x, run_within is_hex_digit (drop 2 bs), length-drop 2 bs)
 
 pub fraction_within : (bs : List ℕ) (n : ℕ) → has_fraction bs n ≡ true → n + 1 + run is_digit (drop (n + 1) bs) ≤ length bs
 fraction_within bs n h =
-    omega (arith, at_within bs n 46 (both _ _ h).0, run_within is_digit (drop (n + 1) bs), length-drop (n + 1) bs)
+    omega (arith, at_within bs n 46 (and_parts _ _ h).0, run_within is_digit (drop (n + 1) bs), length-drop (n + 1) bs)
 
 -- the run itself is as long
 pub digits_length : (bs : List ℕ) → length (take (run is_digit bs) bs) ≡ run is_digit bs

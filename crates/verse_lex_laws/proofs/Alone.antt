@@ -3,8 +3,9 @@ use Rattle.std.proofs.Common.{◌≡◌, ℕ, suc, ◌+◌, ◌==◌, ◌&&◌, 
 use Rattle.std.proofs.Common.{drop, if◌then◌else◌, refl, sym, ◌∙◌, not, ap, arith, subst, append-nil, length-append}
 use Rattle.std.specs.Prelude.{◌^◌, pos, slice_get, nat_le, nat_lt, nat_eq}
 use Rattle.std.specs.Cmp.Lexicographic.{pointwise}
-use Rattle.std.proofs.Math.Seq.{take-length}
+use Rattle.std.proofs.Math.Seq.{take-length, take-append_seam}
 use Rattle.std.proofs.lemmas.List.Sums.{take_while-cons}
+use Rattle.std.proofs.lemmas.Bool.{and_parts}
 use Rattle.verse_lex.specs.Bytes.{is_letter, is_digit, is_hex_digit, in_name, in_line, is_at, is_byte, letter_at, digit_at, passes, run}
 use Rattle.verse_lex.specs.Words.{look_up, name_kind}
 use Rattle.verse_lex.specs.Marks.{doubles, singles}
@@ -23,15 +24,14 @@ use Rattle.verse_lex.specs.declared.texts.Ending.TheVariants as e
 use Rattle.verse_lex.specs.declared.comments.Close.TheVariants as close
 use Rattle.verse_lex.specs.declared.pieces.Next.{Next}
 use Rattle.verse_lex.specs.declared.pieces.Next.TheVariants as n
-use Rattle.verse_lex_laws.proofs.Runs.{other_byte, both, run_stops, at_end, behind_end, drop_end, pointwise_equal}
-use Rattle.verse_lex_laws.proofs.Parts.{take_front}
+use Rattle.verse_lex_laws.proofs.Runs.{other_byte, run_stops, at_end, behind_end, drop_end, pointwise_equal}
 use Rattle.verse_lex_laws.proofs.Spelled.{outcome}
 use Rattle.verse_lex_laws.proofs.Longest.{at_common, at_letter, at_digit, at_blank, point_no_hex, chars_end, body_closes}
 
 run_all : (p : ℕ → Bool) (cs : List ℕ) → all_pass p cs ≡ true → run p cs ≡ length cs
 run_all p [] h = refl
 run_all p (c ∷ cs) h =
-    let f = both (p c) (all_pass p cs) h in
+    let f = and_parts (p c) (all_pass p cs) h in
     let more = run_all p cs f.1 in
     rw (take_while-cons p c cs, f.0) (omega (arith, more))
 
@@ -93,7 +93,7 @@ digits_no_hex b [] h = by_first (b == 48)
     by_first : (v : Bool) → (v && false) ≡ false
     by_first true = refl
     by_first false = refl
-digits_no_hex b (c ∷ cs) h = second_no_hex b c cs (other_byte is_digit c 120 (both (is_digit c) (all_pass is_digit cs) h).0 refl)
+digits_no_hex b (c ∷ cs) h = second_no_hex b c cs (other_byte is_digit c 120 (and_parts (is_digit c) (all_pass is_digit cs) h).0 refl)
 
 digits_alone : (within : Bool) (b : ℕ) (cs : List ℕ) → is_digit b ≡ true → all_pass is_digit cs ≡ true →
     piece_at within (b ∷ cs) ≡ outcome (s.integer_rule (decimal (b ∷ cs))) (k.Int (pos (decimal (b ∷ cs)))) false (length (b ∷ cs))
@@ -149,7 +149,7 @@ fraction_alone within c d cs ds h all g each =
     ap (λ v. v && digit_at ((c ∷ cs) ++ 46 ∷ d ∷ ds) (length (c ∷ cs) + 1)) pointed ∙ digit in
     let dropped : drop (length (c ∷ cs) + 1) ((c ∷ cs) ++ 46 ∷ d ∷ ds) ≡ d ∷ ds =
     ap (λ i. drop i ((c ∷ cs) ++ 46 ∷ d ∷ ds)) e ∙ drop_end (c ∷ cs) 46 (d ∷ ds) in
-    let before : take (length (c ∷ cs)) ((c ∷ cs) ++ 46 ∷ d ∷ ds) ≡ c ∷ cs = take_front (c ∷ cs) (46 ∷ d ∷ ds) in
+    let before : take (length (c ∷ cs)) ((c ∷ cs) ++ 46 ∷ d ∷ ds) ≡ c ∷ cs = take-append_seam (c ∷ cs) (46 ∷ d ∷ ds) in
     let len : length (c ∷ cs) + 1 + length (d ∷ ds) ≡ length ((c ∷ cs) ++ 46 ∷ d ∷ ds) =
     omega (arith, length-append (c ∷ cs) (46 ∷ d ∷ ds)) in
     let other : Next = integer bs (decimal (take (length (c ∷ cs)) bs)) (length (c ∷ cs)) in

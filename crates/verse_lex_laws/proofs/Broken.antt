@@ -2,6 +2,7 @@
 use Rattle.std.proofs.Common.{◌≡◌, ℕ, suc, ◌+◌, ◌≤◌, ◌==◌, ◌&&◌, Bool, true, false, List, [], ◌∷◌, ◌++◌, Option, Some, None, length, refl}
 use Rattle.std.proofs.Common.{sym, ◌∙◌, not, ap, arith, subst, if◌then◌else◌}
 use Rattle.std.specs.Prelude.{slice_get}
+use Rattle.std.proofs.lemmas.Bool.{and_parts}
 use Rattle.verse_base.specs.declared.refusals.Rule.{Rule}
 use Rattle.verse_lex.specs.Bytes.{in_line, is_at, letter_at, run}
 use Rattle.verse_lex.specs.Words.{look_up}
@@ -23,7 +24,7 @@ use Rattle.verse_lex.specs.declared.pieces.Next.TheVariants as n
 use Rattle.verse_lex_laws.specs.Spelling as s
 use Rattle.verse_lex_laws.specs.Spelling.{all_pass, Chars, Number, Stops, NoBody, NoLiteral, NoEscape, LongestNumber, MeetsLone, IsStray}
 use Rattle.verse_lex_laws.specs.Spelling.{Breaks, Unended, EachBroken, EachUnended, OneBreak}
-use Rattle.verse_lex_laws.proofs.Runs.{equal, both, run_stops, AllRows, in_table}
+use Rattle.verse_lex_laws.proofs.Runs.{equal, run_stops, AllRows, in_table}
 use Rattle.verse_lex_laws.proofs.Longest.{at_common, chars_end, number_first}
 use Rattle.verse_lex_laws.proofs.Parts.{comment_body, comment_lone, meets_lone}
 use Rattle.verse_lex_laws.proofs.Spelled.{outcome, NumberAt, number_here, lone_shift}
@@ -65,7 +66,7 @@ stray_bad within b bs x =
 lone_bad : (within : Bool) (bs : List ℕ) → is_lone_at bs 0 ≡ true → piece_at within bs ≡ n.Bad UNEXPECTED 0
 lone_bad within [] h = absurd (cc)
 lone_bad within (b ∷ bs) h =
-    let f = both (b == 13) (not (is_at bs 0 10)) h in
+    let f = and_parts (b == 13) (not (is_at bs 0 10)) h in
     let here : is_at bs 0 10 ≡ false = not_is (is_at bs 0 10) f.1 in
     subst (λ x. piece_at within (x ∷ bs) ≡ n.Bad UNEXPECTED 0) (sym (equal b 13 f.0)) (by_hole within here)
   where
@@ -81,7 +82,7 @@ line_bad : (cs ds : List ℕ) → all_pass in_line cs ≡ true → is_lone_at ds
     piece_at false (35 ∷ (cs ++ ds)) ≡ n.Bad UNEXPECTED (1 + length cs)
 line_bad cs [] all h = absurd (cc)
 line_bad cs (d ∷ ds) all h =
-    let f = both (d == 13) (not (is_at ds 0 10)) h in
+    let f = and_parts (d == 13) (not (is_at ds 0 10)) h in
     let stops : in_line d ≡ false = subst (λ x. in_line x ≡ false) (sym (equal d 13 f.0)) refl in
     let first : all_pass in_line (35 ∷ cs) ≡ true = all in
     let count : run in_line (35 ∷ (cs ++ d ∷ ds)) ≡ length (35 ∷ cs) = run_stops in_line (35 ∷ cs) d ds first stops in
@@ -218,7 +219,7 @@ stops_is (s.lone {ds = ds} h) = at_lone ds h
     at_lone : (cs : List ℕ) → is_lone_at cs 0 ≡ true → text_chars cs ≡ e.Broken UNEXPECTED 0
     at_lone [] g = absurd (cc)
     at_lone (b ∷ cs) g =
-        let f = both (b == 13) (not (is_at cs 0 10)) g in
+        let f = and_parts (b == 13) (not (is_at cs 0 10)) g in
         subst (λ x. text_chars (x ∷ cs) ≡ e.Broken UNEXPECTED 0) (sym (equal b 13 f.0)) (rw (not_is (is_at cs 0 10) f.1) refl)
 stops_is (s.no_escape {ds = []} h) = refl
 stops_is (s.no_escape {ds = b ∷ ds} h) = rw h refl

@@ -1,6 +1,7 @@
 -- The tokens of a file are spelled by their bytes.
 use Rattle.std.proofs.Common.{◌≡◌, ℕ, suc, ◌+◌, ◌-◌, Bool, List, [], ◌∷◌, ◌++◌, length, take, drop, refl, sym, ◌∙◌, ap, arith, subst}
 use Rattle.std.proofs.Common.{append_assoc, length-append, length-take, take-append-drop}
+use Rattle.std.proofs.Math.Seq.{drop-append_seam, take-append_seam}
 use Rattle.verse_base.specs.declared.places.Place.{Place}
 use Rattle.verse_lex.specs.Pieces.{piece_at}
 use Rattle.verse_lex.specs.Contents.{unescaped, between}
@@ -12,7 +13,6 @@ use Rattle.verse_lex.specs.declared.pieces.Next.{Next}
 use Rattle.verse_lex.specs.declared.pieces.Next.TheVariants as n
 use Rattle.verse_lex.specs.declared.cursors.Cursor.{Cursor}
 use Rattle.verse_lex_laws.proofs.Runs.{other_byte, drop_end}
-use Rattle.verse_lex_laws.proofs.Parts.{take_front, drop_front}
 use Rattle.verse_lex.proofs.Pushes.{mark_within}
 use Rattle.verse_lex_laws.proofs.Spelled.{each_explained}
 
@@ -33,9 +33,9 @@ passed : (file : ℕ) (bytes mark : List ℕ) (here there : Cursor) (rest : List
     there.at ≡ here.at + count → there.place ≡ after here.place (take count rest) → Upto file bytes mark there (drop count rest)
 passed file bytes mark here there rest piece within count u b at place =
     let taken : take count rest ≡ b.front = ap (λ i. take i rest) (sym b.len) ∙
-    (ap (take (length b.front)) b.whole ∙ take_front b.front b.behind) in
+    (ap (take (length b.front)) b.whole ∙ take-append_seam b.front b.behind) in
     let dropped : drop count rest ≡ b.behind =
-    ap (λ i. drop i rest) (sym b.len) ∙ (ap (drop (length b.front)) b.whole ∙ drop_front b.front b.behind) in
+    ap (λ i. drop i rest) (sym b.len) ∙ (ap (drop (length b.front)) b.whole ∙ drop-append_seam b.front b.behind) in
     record {
       before = u.before ++ b.front;
       whole = u.whole ∙ ap (λ x. mark ++ x) (ap (λ x. u.before ++ x) b.whole ∙
@@ -99,5 +99,5 @@ texts_mean before behind cs ms q r t start stop h =
     ap (λ i. drop i (before ++ ((q ∷ (cs ++ r ∷ [])) ++ behind))) e ∙ drop_end before q ((cs ++ r ∷ []) ++ behind) in
     let taken : between (before ++ ((q ∷ (cs ++ r ∷ [])) ++ behind)) t.start t.end ≡ cs =
     ap (take (t.end - t.start - 2)) inner ∙ (ap (λ i. take i ((cs ++ r ∷ []) ++ behind)) span ∙
-    (ap (take (length cs)) (append_assoc cs (r ∷ []) behind) ∙ take_front cs (r ∷ behind))) in
+    (ap (take (length cs)) (append_assoc cs (r ∷ []) behind) ∙ take-append_seam cs (r ∷ behind))) in
     ap unescaped taken ∙ chars_mean cs ms h

@@ -2,6 +2,7 @@
 use Rattle.std.proofs.Common.{◌≡◌, ℕ, ◌+◌, ◌-◌, Bool, List, [], ◌∷◌, ◌++◌, length, take, drop, Option, Some, None, option_map, refl, sym}
 use Rattle.std.proofs.Common.{◌∙◌, ap, arith, subst, append_assoc, append-nil, length-append}
 use Rattle.std.proofs.lemmas.List.{drop-drop}
+use Rattle.std.proofs.Math.Seq.{drop-append_seam, take-append_seam}
 use Rattle.verse_lex.specs.Bytes.{is_blank, run}
 use Rattle.verse_lex.specs.Pieces.{piece_at}
 use Rattle.verse_lex.specs.Cut.{Cuts, cuts_none, cuts_separator, cuts_line, cuts_token, in_hole, past, past_line, past_token, token}
@@ -15,7 +16,6 @@ use Rattle.verse_lex_laws.specs.Spelling as s
 use Rattle.verse_lex_laws.specs.Spelling.{Spells, BeginsWith, Explains}
 use Rattle.verse_lex_laws.specs.Indents.{LinesIn, no_bytes, separator, last_end, earlier_end, indent_at, either, IsIndented, AllIndented}
 use Rattle.verse_lex_laws.specs.Indents.{TokensIndented}
-use Rattle.verse_lex_laws.proofs.Parts.{take_front, drop_front}
 use Rattle.verse_lex_laws.proofs.Spelled.{each_explained}
 
 -- one more separator, or one more line end
@@ -63,7 +63,7 @@ begun within bs x h = subst (Explains within bs) h (each_explained within bs)
 
 -- what is behind a piece
 left : {within : Bool} {rest : List ℕ} {piece : s.Piece} {count : ℕ} → (b : BeginsWith within rest piece count) → drop count rest ≡ b.behind
-left {rest = rest} b = ap (λ i. drop i rest) (sym b.len) ∙ (ap (drop (length b.front)) b.whole ∙ drop_front b.front b.behind)
+left {rest = rest} b = ap (λ i. drop i rest) (sym b.len) ∙ (ap (drop (length b.front)) b.whole ∙ drop-append_seam b.front b.behind)
 
 longer : {within : Bool} {rest : List ℕ} {piece : s.Piece} {count : ℕ} (bs gap : List ℕ) (from : ℕ) → drop from bs ≡ gap ++ rest →
     (b : BeginsWith within rest piece count) → drop from bs ≡ (gap ++ b.front) ++ drop count rest
@@ -73,7 +73,7 @@ longer bs gap from e b = e ∙ ap (λ x. gap ++ x) b.whole ∙ sym (append_assoc
 -- the bytes at the cursor
 at_cursor : (bs gap rest : List ℕ) (from at : ℕ) → drop from bs ≡ gap ++ rest → at ≡ from + length gap → drop at bs ≡ rest
 at_cursor bs gap rest from at e h =
-    ap (λ i. drop i bs) h ∙ sym (drop-drop (length gap) from bs) ∙ ap (drop (length gap)) e ∙ drop_front gap rest
+    ap (λ i. drop i bs) h ∙ sym (drop-drop (length gap) from bs) ∙ ap (drop (length gap)) e ∙ drop-append_seam gap rest
 
 since_separator : {bs rest : List ℕ} {from : ℕ} {began : Option ℕ} {cursor : Cursor} {count : ℕ} → Since bs from began cursor rest →
     BeginsWith (in_hole cursor) rest s.separates count → Since bs from began (past cursor count rest) (drop count rest)
@@ -118,7 +118,7 @@ indented : {bs rest : List ℕ} {from : ℕ} {began : Option ℕ} {cursor : Curs
 indented {bs = bs} {rest = rest} {from = from} {cursor = cursor} kind count x =
     let len : cursor.at - from ≡ length x.gap = omega (arith, x.at) in
     let gap : take (cursor.at - from) (drop from bs) ≡ x.gap = ap (λ i. take i (drop from bs)) len ∙ ap (take (length x.gap)) x.whole ∙
-    take_front x.gap rest in
+    take-append_seam x.gap rest in
     record {
       within = in_hole cursor;
       line = x.line;

@@ -1,9 +1,10 @@
 -- Each piece is the longest that is spelled at its place.
 use Rattle.std.proofs.Common.{◌≡◌, ℕ, suc, ◌+◌, ◌≤◌, ◌==◌, ◌&&◌, ◌||◌, Bool, true, false, List, [], ◌∷◌, ◌++◌, Option, Some, None, length}
-use Rattle.std.proofs.Common.{take, drop, if◌then◌else◌, refl, sym, ◌∙◌, not, ap, arith, subst, append_assoc, length-append, add-one}
+use Rattle.std.proofs.Common.{take, drop, if◌then◌else◌, refl, sym, ◌∙◌, ap, arith, subst, append_assoc, length-append, add-one}
 use Rattle.std.specs.Prelude.{◌^◌, pos, slice_get, nat_le, nat_lt}
 use Rattle.std.proofs.lemmas.Bool.Decides.{nat_tests}
 use Rattle.std.proofs.lemmas.List.Sums.{take_while-cons}
+use Rattle.std.proofs.lemmas.Bool.{and_parts, not-true}
 use Rattle.verse_lex.specs.Bytes.{is_letter, is_digit, is_hex_digit, is_blank, in_name, in_line, is_at, letter_at, passes, run}
 use Rattle.verse_lex.specs.Marks.{doubles, singles}
 use Rattle.verse_lex.specs.Texts.{text_chars, further}
@@ -25,7 +26,7 @@ use Rattle.verse_lex.specs.declared.comments.Close.{Close}
 use Rattle.verse_lex.specs.declared.comments.Close.TheVariants as close
 use Rattle.verse_lex.specs.declared.pieces.Next.{Next}
 use Rattle.verse_lex.specs.declared.pieces.Next.TheVariants as n
-use Rattle.verse_lex_laws.proofs.Runs.{equal, other_byte, both, digit_no_letter, run_reach, run_stops, at_end, behind_end, drop_end}
+use Rattle.verse_lex_laws.proofs.Runs.{equal, other_byte, digit_no_letter, run_reach, run_stops, at_end, behind_end, drop_end}
 use Rattle.verse_lex_laws.proofs.Runs.{AllRows, in_table}
 
 if_reaches : (v : Bool) (x y : Next) (len : ℕ) → Reaches x len → Reaches y len → Reaches (if v then x else y) len
@@ -92,7 +93,7 @@ hex_run (b ∷ []) h = by_digit (is_digit b) refl
     by_digit true g = rw (take_while-cons is_digit b [], g) (omega arith)
     by_digit false g = rw (take_while-cons is_digit b [], g) (omega arith)
 hex_run (b ∷ c ∷ bs) h =
-    let x : (c == 120) ≡ true = (both _ _ (both _ _ h).1).0 in
+    let x : (c == 120) ≡ true = (and_parts _ _ (and_parts _ _ h).1).0 in
     let same : 120 ≡ c = sym (equal c 120 x) in
     by_digit (is_digit b) refl (subst (λ y. is_digit y ≡ false) same refl)
   where
@@ -128,7 +129,7 @@ second_no_x b c cs h = by_first (b == 48)
 pub point_no_hex : (c : ℕ) (cs ds : List ℕ) → all_pass is_digit cs ≡ true → is_hexadecimal (c ∷ (cs ++ 46 ∷ ds)) ≡ false
 point_no_hex c [] ds h = second_no_x c 46 ds refl
 point_no_hex c (d ∷ cs) ds h = second_no_x c d (cs ++ 46 ∷ ds)
-    (other_byte is_digit d 120 (both (is_digit d) (all_pass is_digit cs) h).0 refl)
+    (other_byte is_digit d 120 (and_parts (is_digit d) (all_pass is_digit cs) h).0 refl)
 
 fraction_len : (c d : ℕ) (cs ds es : List ℕ) → is_digit c ≡ true → all_pass is_digit cs ≡ true → is_digit d ≡ true →
     all_pass is_digit ds ≡ true →
@@ -200,18 +201,21 @@ further_none (e.Brace i) = ap e.Brace (omega arith)
 further_none (e.Broken rule i) = ap (e.Broken rule) (omega arith)
 further_none e.Line = refl
 
-no : (b : Bool) → not b ≡ true → b ≡ false
-no true h = absurd (cc)
-no false h = refl
-
 plain_char : (b : ℕ) (bs : List ℕ) → s.is_plain b ≡ true → text_chars (b ∷ bs) ≡ further 1 (text_chars bs)
 plain_char b bs h =
-    let h1 = both _ _ h in
-    let h2 = both _ _ h1.1 in
-    let h3 = both _ _ h2.1 in
-    let h4 = both _ _ h3.1 in
-    let h5 = both _ _ h4.1 in
-    rw (no (b == 34) h1.0, no (b == 123) h2.0, no (b == 125) h3.0, no (b == 10) h4.0, no (b == 13) h5.0, no (b == 92) h5.1) refl
+    let h1 = and_parts _ _ h in
+    let h2 = and_parts _ _ h1.1 in
+    let h3 = and_parts _ _ h2.1 in
+    let h4 = and_parts _ _ h3.1 in
+    let h5 = and_parts _ _ h4.1 in
+    rw (
+      not-true (b == 34) h1.0,
+      not-true (b == 123) h2.0,
+      not-true (b == 125) h3.0,
+      not-true (b == 10) h4.0,
+      not-true (b == 13) h5.0,
+      not-true (b == 92) h5.1,
+    ) refl
 
 pub chars_end : (cs ms ds : List ℕ) → Chars cs ms → text_chars (cs ++ ds) ≡ further (length cs) (text_chars ds)
 chars_end cs ms ds s.no_chars = further_none (text_chars ds)

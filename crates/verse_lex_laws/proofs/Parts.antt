@@ -4,6 +4,8 @@ use Rattle.std.proofs.Common.{drop, if◌then◌else◌, refl, sym, ◌∙◌, a
 use Rattle.std.proofs.Math.Nat.{suc-add}
 use Rattle.std.specs.Prelude.{slice_get}
 use Rattle.std.proofs.lemmas.List.Sums.{take_while-cons}
+use Rattle.std.proofs.lemmas.Bool.{and_parts}
+use Rattle.std.proofs.Math.Seq.{drop-append_seam, take-append_seam}
 use Rattle.verse_lex.specs.Bytes.{is_at, passes, run}
 use Rattle.verse_lex.specs.Texts.{escape, text_chars, behind_backslash, if_escape, further}
 use Rattle.verse_lex.specs.Comments.{closing, beyond, closes, opens, is_lone}
@@ -16,7 +18,7 @@ use Rattle.verse_lex.specs.declared.texts.Ending.{Ending}
 use Rattle.verse_lex.specs.declared.texts.Ending.TheVariants as e
 use Rattle.verse_lex.specs.declared.comments.Close.{Close}
 use Rattle.verse_lex.specs.declared.comments.Close.TheVariants as close
-use Rattle.verse_lex_laws.proofs.Runs.{equal, both}
+use Rattle.verse_lex_laws.proofs.Runs.{equal}
 use Rattle.verse_lex_laws.proofs.Longest.{body_closes}
 
 -- a run of bytes that pass, and what stands behind it
@@ -49,24 +51,16 @@ pub run_parts : (p : ℕ → Bool) (bs : List ℕ) → Run p bs
 run_parts p [] = record { front = []; behind = []; whole = refl; all = refl; count = refl; stops = refl }
 run_parts p (b ∷ bs) = run_case p b bs (p b) refl (run_parts p bs)
 
-pub take_front : (cs ds : List ℕ) → take (length cs) (cs ++ ds) ≡ cs
-take_front [] ds = refl
-take_front (c ∷ cs) ds = ap (λ x. c ∷ x) (take_front cs ds)
-
-pub drop_front : (cs ds : List ℕ) → drop (length cs) (cs ++ ds) ≡ ds
-drop_front [] ds = refl
-drop_front (c ∷ cs) ds = drop_front cs ds
-
 pub get_behind : (cs ds : List ℕ) (i : ℕ) → slice_get (cs ++ ds) (length cs + i) ≡ slice_get ds i
 get_behind [] ds i = rw zero-add refl
 get_behind (c ∷ cs) ds i = rw suc-add (get_behind cs ds i)
 
 -- what the run takes
 pub run_take : (p : ℕ → Bool) (bs : List ℕ) (r : Run p bs) → take (run p bs) bs ≡ r.front
-run_take p bs r = ap (λ i. take i bs) r.count ∙ (ap (take (length r.front)) r.whole ∙ take_front r.front r.behind)
+run_take p bs r = ap (λ i. take i bs) r.count ∙ (ap (take (length r.front)) r.whole ∙ take-append_seam r.front r.behind)
 
 pub run_drop : (p : ℕ → Bool) (bs : List ℕ) (r : Run p bs) → drop (run p bs) bs ≡ r.behind
-run_drop p bs r = ap (λ i. drop i bs) r.count ∙ (ap (drop (length r.front)) r.whole ∙ drop_front r.front r.behind)
+run_drop p bs r = ap (λ i. drop i bs) r.count ∙ (ap (drop (length r.front)) r.whole ∙ drop-append_seam r.front r.behind)
 
 -- the characters of a text, and how they end
 pub record Parts (bs : List ℕ) (x : Ending) : Type 0 where
@@ -276,7 +270,7 @@ one_more depth b c bs close.Never h f = tt
 two_bytes : (b c x y : ℕ) (bs : List ℕ) (depth : ℕ) (z : Close) → ((b == x) && (c == y)) ≡ true → Closing depth (x ∷ y ∷ bs) z →
     Closing depth (b ∷ c ∷ bs) z
 two_bytes b c x y bs depth z h f =
-    let g = both (b == x) (c == y) h in
+    let g = and_parts (b == x) (c == y) h in
     subst (λ i. Closing depth (i ∷ c ∷ bs) z) (sym (equal b x g.0)) (subst (λ i. Closing depth (x ∷ i ∷ bs) z) (sym (equal c y g.1)) f)
 
 last_byte : (b : ℕ) (depth : ℕ) (v : Bool) → (b == 13) ≡ v → Closing (suc depth) (b ∷ []) (if v then close.Lone 0 else close.Never)
@@ -329,9 +323,9 @@ meets_lone (s.lone_here {bs = bs} h) depth = at_lone bs depth h
   where
     at_lone : (cs : List ℕ) (m : ℕ) → is_lone_at cs 0 ≡ true → closing (suc m) cs ≡ close.Lone 0
     at_lone [] m g = absurd (cc)
-    at_lone (b ∷ []) m g = rw (both (b == 13) true g).0 refl
+    at_lone (b ∷ []) m g = rw (and_parts (b == 13) true g).0 refl
     at_lone (b ∷ c ∷ cs) m g =
-        let f = both (b == 13) (not (c == 10)) g in
+        let f = and_parts (b == 13) (not (c == 10)) g in
         let e : b ≡ 13 = equal b 13 f.0 in
         subst (λ x. closing (suc m) (x ∷ c ∷ cs) ≡ close.Lone 0) (sym e) (rw f.1 refl)
 meets_lone (s.in_nested {bs = bs} {count = count} m) depth = ap (beyond 2) (meets_lone m (suc depth))

@@ -1,10 +1,10 @@
 -- Tests of bytes, runs of bytes, and tables.
-use Rattle.std.proofs.Common.{◌≡◌, ℕ, suc, ◌≤◌, ◌==◌, ◌&&◌, Bool, true, false, List, [], ◌∷◌, ◌++◌, Option, Some, length, drop}
+use Rattle.std.proofs.Common.{◌≡◌, ℕ, suc, ◌≤◌, ◌==◌, Bool, true, false, List, [], ◌∷◌, ◌++◌, Option, Some, length, drop}
 use Rattle.std.proofs.Common.{if◌then◌else◌, refl, sym, arith, subst}
 use Rattle.std.specs.Prelude.{nat_eq, slice_get}
 use Rattle.std.specs.Cmp.Lexicographic.{pointwise}
 use Rattle.std.proofs.lemmas.List.Sums.{take_while-cons}
-use Rattle.std.proofs.lemmas.Bool.{eqb-true}
+use Rattle.std.proofs.lemmas.Bool.{eqb-true, and_parts}
 use Rattle.std.proofs.lemmas.Bool.Decides.{nat_tests}
 use Rattle.verse_lex.specs.Bytes.{is_letter, is_digit, run}
 use Rattle.verse_lex.specs.Words.{look_up}
@@ -20,17 +20,13 @@ other_byte p b c h g = by_test (b == c) refl
     by_test false e = e
     by_test true e = let same = equal b c e in let f : p c ≡ true = subst (λ x. p x ≡ true) same h in absurd (cc)
 
-pub both : (a b : Bool) → (a && b) ≡ true → (a ≡ true) × (b ≡ true)
-both true b h = (refl, h)
-both false b h = absurd (cc)
-
 pub digit_no_letter : (b : ℕ) → is_digit b ≡ true → is_letter b ≡ false
 digit_no_letter b h = grind (arith, nat_tests)
 
 pub run_reach : (p : ℕ → Bool) (cs ds : List ℕ) → all_pass p cs ≡ true → length cs ≤ run p (cs ++ ds)
 run_reach p [] ds h = omega arith
 run_reach p (b ∷ cs) ds h =
-    let f = both (p b) (all_pass p cs) h in
+    let f = and_parts (p b) (all_pass p cs) h in
     let e = run_reach p cs ds f.1 in
     rw (take_while-cons p b (cs ++ ds), f.0) (omega (arith, e))
 
@@ -38,7 +34,7 @@ run_reach p (b ∷ cs) ds h =
 pub run_stops : (p : ℕ → Bool) (cs : List ℕ) (b : ℕ) (ds : List ℕ) → all_pass p cs ≡ true → p b ≡ false → run p (cs ++ b ∷ ds) ≡ length cs
 run_stops p [] b ds h g = rw (take_while-cons p b ds, g) refl
 run_stops p (c ∷ cs) b ds h g =
-    let f = both (p c) (all_pass p cs) h in
+    let f = and_parts (p c) (all_pass p cs) h in
     let e = run_stops p cs b ds f.1 g in
     rw (take_while-cons p c (cs ++ b ∷ ds), f.0) (omega (arith, e))
 
@@ -65,7 +61,7 @@ pointwise_equal [] [] h = refl
 pointwise_equal [] (y ∷ ys) h = absurd (cc)
 pointwise_equal (x ∷ xs) [] h = absurd (cc)
 pointwise_equal (x ∷ xs) (y ∷ ys) h =
-    let f = both (x == y) (pointwise nat_eq xs ys) h in
+    let f = and_parts (x == y) (pointwise nat_eq xs ys) h in
     let e = pointwise_equal xs ys f.1 in
     let g = equal x y f.0 in
     cc

@@ -2,6 +2,8 @@
 use Rattle.std.proofs.Common.{◌≡◌, ℕ, suc, ◌+◌, ◌≤◌, ◌==◌, ◌&&◌, ◌||◌, Bool, true, false, List, [], ◌∷◌, ◌++◌, Option, Some, None, length}
 use Rattle.std.proofs.Common.{take, drop, if◌then◌else◌, refl, sym, ◌∙◌, not, ap, arith, subst, append_assoc, length-append, add-zero}
 use Rattle.std.specs.Prelude.{◌^◌, pos, slice_get, nat_le, nat_lt}
+use Rattle.std.proofs.lemmas.Bool.{and_parts, or_parts}
+use Rattle.std.proofs.Math.Seq.{take-append_seam}
 use Rattle.verse_lex.specs.Bytes.{is_letter, is_digit, is_hex_digit, is_blank, in_name, in_line, is_at, is_byte, letter_at, digit_at}
 use Rattle.verse_lex.specs.Bytes.{passes, run}
 use Rattle.verse_lex.specs.Words.{look_up, name_kind}
@@ -17,6 +19,7 @@ use Rattle.verse_lex_laws.specs.Spelling as s
 use Rattle.verse_lex_laws.specs.Spelling.{all_pass, is_plain, Body, Chars, Literal, Number, Piece, Spells, Stops, NoBody, NoLiteral}
 use Rattle.verse_lex_laws.specs.Spelling.{LongestNumber, NoEscape, IsStray, Breaks, Unended, BeginsWith, Explains, EachExplained}
 use Rattle.verse_base.specs.declared.refusals.Rule.{Rule}
+use Rattle.verse_base.proofs.Facts.{clash}
 use Rattle.verse_lex.specs.declared.rules.TheConstants.{UNEXPECTED, TEXT_END, ESCAPE, INTEGER, DURATION, CHARACTER}
 use Rattle.verse_lex.specs.declared.tokens.Mark.{Mark}
 use Rattle.verse_lex.specs.declared.tokens.TokenKind.{TokenKind}
@@ -27,19 +30,15 @@ use Rattle.verse_lex.specs.declared.comments.Close.{Close}
 use Rattle.verse_lex.specs.declared.comments.Close.TheVariants as close
 use Rattle.verse_lex.specs.declared.pieces.Next.{Next}
 use Rattle.verse_lex.specs.declared.pieces.Next.TheVariants as n
-use Rattle.verse_lex_laws.proofs.Runs.{equal, both, drop_end}
+use Rattle.verse_lex_laws.proofs.Runs.{equal, drop_end}
 use Rattle.verse_lex_laws.proofs.Longest.{number_len, number_reach}
-use Rattle.verse_lex_laws.proofs.Parts.{run_parts, run_more, run_take, take_front, get_behind, text_parts, comment_body, comment_lone}
+use Rattle.verse_lex_laws.proofs.Parts.{run_parts, run_more, run_take, get_behind, text_parts, comment_body, comment_lone}
 use Rattle.verse_lex_laws.proofs.Parts.{meets_lone, no_body}
 
 if_explains : (within : Bool) (bs : List ℕ) (v : Bool) (x y : Next) → (v ≡ true → Explains within bs x) →
     (v ≡ false → Explains within bs y) → Explains within bs (if v then x else y)
 if_explains within bs true x y h g = h refl
 if_explains within bs false x y h g = g refl
-
-apart : {P : Type 0} (v : Bool) → v ≡ true → v ≡ false → P
-apart true h g = absurd (cc)
-apart false h g = absurd (cc)
 
 -- names
 name_explained : (within : Bool) (b : ℕ) (bs : List ℕ) → is_letter b ≡ true → Explains within (b ∷ bs) (name (b ∷ bs))
@@ -134,7 +133,7 @@ digits_number b bs h longest =
     let count : run is_digit (b ∷ bs) ≡ length (b ∷ r.front) = run_more is_digit b bs h ∙ ap suc r.count in
     let whole : b ∷ bs ≡ (b ∷ r.front) ++ r.behind = ap (λ x. b ∷ x) r.whole in
     let taken : take (run is_digit (b ∷ bs)) (b ∷ bs) ≡ b ∷ r.front =
-    ap (λ i. take i (b ∷ bs)) count ∙ (ap (take (length (b ∷ r.front))) whole ∙ take_front (b ∷ r.front) r.behind) in
+    ap (λ i. take i (b ∷ bs)) count ∙ (ap (take (length (b ∷ r.front))) whole ∙ take-append_seam (b ∷ r.front) r.behind) in
     let same : integer ((b ∷ r.front) ++ r.behind) (decimal (b ∷ r.front)) (length (b ∷ r.front)) ≡
     integer (b ∷ bs) (decimal (take (run is_digit (b ∷ bs)) (b ∷ bs))) (run is_digit (b ∷ bs)) =
     sym (ap (λ x. integer x (decimal (take (run is_digit (b ∷ bs)) (b ∷ bs))) (run is_digit (b ∷ bs))) whole ∙
@@ -157,7 +156,7 @@ hex_number d bs h longest =
     let count : run is_hex_digit (d ∷ bs) + 2 ≡ length (48 ∷ 120 ∷ d ∷ r.front) = omega (arith, short) in
     let whole : d ∷ bs ≡ (d ∷ r.front) ++ r.behind = ap (λ x. d ∷ x) r.whole in
     let taken : take (run is_hex_digit (d ∷ bs)) (d ∷ bs) ≡ d ∷ r.front =
-    ap (λ i. take i (d ∷ bs)) short ∙ (ap (take (length (d ∷ r.front))) whole ∙ take_front (d ∷ r.front) r.behind) in
+    ap (λ i. take i (d ∷ bs)) short ∙ (ap (take (length (d ∷ r.front))) whole ∙ take-append_seam (d ∷ r.front) r.behind) in
     let far : LongestNumber (48 ∷ 120 ∷ d ∷ bs) (length (48 ∷ 120 ∷ d ∷ r.front)) =
     subst (LongestNumber (48 ∷ 120 ∷ d ∷ bs)) count longest in
     let made = integer_number (48 ∷ 120 ∷ d ∷ r.front) r.behind (hexadecimal (d ∷ r.front)) (s.hex_digits d r.front h r.all)
@@ -184,7 +183,7 @@ point_of (b ∷ c ∷ bs) h g = record { digit = c; rest = bs; whole = ap (λ x.
 -- behind the digits stands the point
 point_behind : (cs ds : List ℕ) → has_fraction (cs ++ ds) (length cs) ≡ true → Point ds
 point_behind cs ds h =
-    let g = both (is_at (cs ++ ds) (length cs) 46) (digit_at (cs ++ ds) (length cs + 1)) h in
+    let g = and_parts (is_at (cs ++ ds) (length cs) 46) (digit_at (cs ++ ds) (length cs + 1)) h in
     let here : is_at ds 0 46 ≡ is_at (cs ++ ds) (length cs) 46 =
     ap (λ x. is_byte x 46) (sym (ap (slice_get (cs ++ ds)) (sym (add-zero (length cs))) ∙ get_behind cs ds 0)) in
     let next : digit_at ds 1 ≡ digit_at (cs ++ ds) (length cs + 1) = ap (passes is_digit) (sym (get_behind cs ds 1)) in
@@ -201,10 +200,10 @@ point_number c d cs rest h all g longest =
     let short : run is_digit (d ∷ rest) ≡ length (d ∷ r.front) = run_more is_digit d rest g ∙ ap suc r.count in
     let tail : d ∷ rest ≡ (d ∷ r.front) ++ r.behind = ap (λ x. d ∷ x) r.whole in
     let taken : take (run is_digit (d ∷ rest)) (d ∷ rest) ≡ d ∷ r.front =
-    ap (λ i. take i (d ∷ rest)) short ∙ (ap (take (length (d ∷ r.front))) tail ∙ take_front (d ∷ r.front) r.behind) in
+    ap (λ i. take i (d ∷ rest)) short ∙ (ap (take (length (d ∷ r.front))) tail ∙ take-append_seam (d ∷ r.front) r.behind) in
     let dropped : drop (length (c ∷ cs) + 1) ((c ∷ cs) ++ 46 ∷ d ∷ rest) ≡ d ∷ rest = let e : length (c ∷ cs) + 1 ≡ suc (length (c ∷ cs)) =
     omega arith in ap (λ i. drop i ((c ∷ cs) ++ 46 ∷ d ∷ rest)) e ∙ drop_end (c ∷ cs) 46 (d ∷ rest) in
-    let before : take (length (c ∷ cs)) ((c ∷ cs) ++ 46 ∷ d ∷ rest) ≡ c ∷ cs = take_front (c ∷ cs) (46 ∷ d ∷ rest) in
+    let before : take (length (c ∷ cs)) ((c ∷ cs) ++ 46 ∷ d ∷ rest) ≡ c ∷ cs = take-append_seam (c ∷ cs) (46 ∷ d ∷ rest) in
     let count : length (c ∷ cs) + 1 + run is_digit (d ∷ rest) ≡ length ((c ∷ cs) ++ 46 ∷ d ∷ r.front) =
     omega (arith, short, length-append (c ∷ cs) (46 ∷ d ∷ r.front)) in
     let whole : (c ∷ cs) ++ 46 ∷ d ∷ rest ≡ ((c ∷ cs) ++ 46 ∷ d ∷ r.front) ++ r.behind =
@@ -252,11 +251,11 @@ record Hex (bs : List ℕ) : Type 0 where
 
 hex_of : (bs : List ℕ) → is_hexadecimal bs ≡ true → Hex bs
 hex_of [] h = absurd (cc)
-hex_of (b ∷ []) h = let g : false ≡ true = (both (b == 48) false h).1 in absurd (cc)
-hex_of (b ∷ c ∷ []) h = let g : false ≡ true = (both (c == 120) false (both (b == 48) ((c == 120) && false) h).1).1 in absurd (cc)
+hex_of (b ∷ []) h = let g : false ≡ true = (and_parts (b == 48) false h).1 in absurd (cc)
+hex_of (b ∷ c ∷ []) h = let g : false ≡ true = (and_parts (c == 120) false (and_parts (b == 48) ((c == 120) && false) h).1).1 in absurd (cc)
 hex_of (b ∷ c ∷ d ∷ bs) h =
-    let g = both (b == 48) ((c == 120) && is_hex_digit d) h in
-    let f = both (c == 120) (is_hex_digit d) g.1 in
+    let g = and_parts (b == 48) ((c == 120) && is_hex_digit d) h in
+    let f = and_parts (c == 120) (is_hex_digit d) g.1 in
     record {
       digit = d;
       rest = bs;
@@ -310,13 +309,13 @@ no_plain b c bs h g cs ds x e (s.literal_plain {b = d} f i) =
     h (subst (λ y. in_literal y ≡ true) same f) g (subst (λ y. is_at y 0 39 ≡ true) (sym rest) refl)
 no_plain b c bs h g cs ds x e (s.literal_escaped {b = d} f) =
     let same : b ≡ 92 = cc in
-    apart (b == 92) (subst (λ y. (y == 92) ≡ true) (sym same) refl) g
+    clash (b == 92) (subst (λ y. (y == 92) ≡ true) (sym same) refl) g
 
 no_backslash : (b : ℕ) (bs : List ℕ) → (b == 92) ≡ false → NoEscape (b ∷ bs) → ⊥
 no_backslash b bs g x =
     let e = x.whole in
     let same : b ≡ 92 = cc in
-    apart (b == 92) (subst (λ y. (y == 92) ≡ true) (sym same) refl) g
+    clash (b == 92) (subst (λ y. (y == 92) ≡ true) (sym same) refl) g
 
 good_escape : (b c : ℕ) (bs : List ℕ) → escape b ≡ Some c → NoEscape (92 ∷ b ∷ bs) → ⊥
 good_escape b c bs h x =
@@ -338,15 +337,15 @@ plain_explained within b (c ∷ bs) g h =
       spelled =
           s.literal (s.literal_plain h g);
     })
-    (λ t. s.no_literal (no_plain b 0 (c ∷ bs) (λ f i j. apart (c == 39) j t) g) (no_backslash b (c ∷ bs) g))
+    (λ t. s.no_literal (no_plain b 0 (c ∷ bs) (λ f i j. clash (c == 39) j t) g) (no_backslash b (c ∷ bs) g))
 
 no_escaped : (b x : ℕ) (bs : List ℕ) → is_at bs 0 39 ≡ false → NoLiteral (39 ∷ 92 ∷ b ∷ bs)
 no_escaped b x bs h cs ds y e (s.literal_plain {b = d} f i) =
     let same : d ≡ 92 = cc in
-    apart (d == 92) (subst (λ z. (z == 92) ≡ true) (sym same) refl) i
+    clash (d == 92) (subst (λ z. (z == 92) ≡ true) (sym same) refl) i
 no_escaped b x bs h cs ds y e (s.literal_escaped {b = d} f) =
     let rest : bs ≡ 39 ∷ ds = cc in
-    apart (is_at bs 0 39) (subst (λ z. is_at z 0 39 ≡ true) (sym rest) refl) h
+    clash (is_at bs 0 39) (subst (λ z. is_at z 0 39 ≡ true) (sym rest) refl) h
 
 escaped_explained : (within : Bool) (b x : ℕ) (bs : List ℕ) → escape b ≡ Some x →
     Explains within (39 ∷ 92 ∷ b ∷ bs) (literal_end (39 ∷ 92 ∷ b ∷ bs) x 3)
@@ -380,7 +379,7 @@ literal_explained within (b ∷ bs) =
     (λ t. subst (λ x. Explains within (39 ∷ x ∷ bs) (literal_escape (39 ∷ x ∷ bs) (escape_of (slice_get bs 0)))) (sym (equal b 92 t))
     (backslash_explained within bs (escape_of (slice_get bs 0)) refl))
     (λ g. if_explains within (39 ∷ b ∷ bs) (in_literal b) _ _ (plain_explained within b bs g)
-    (λ f. s.no_literal (no_plain b 0 bs (λ h i j. apart (in_literal b) h f) g) (no_backslash b bs g)))
+    (λ f. s.no_literal (no_plain b 0 bs (λ h i j. clash (in_literal b) h f) g) (no_backslash b bs g)))
 
 -- marks
 -- a byte that begins neither a line end, a comment nor a text, and in a hole no brace
@@ -584,9 +583,9 @@ feed_explained : (bs : List ℕ) → Explains false (10 ∷ bs) (n.LineEnd 1)
 feed_explained bs = record { front = 10 ∷ []; behind = bs; whole = refl; len = refl; spelled = s.line_feed }
 
 comment_at : (b : ℕ) (bs : List ℕ) → begins_comment (b ∷ bs) ≡ true → Explains false (b ∷ bs) (comment (b ∷ bs))
-comment_at b [] h = let g : false ≡ true = (both (b == 60) false h).1 in absurd (cc)
+comment_at b [] h = let g : false ≡ true = (and_parts (b == 60) false h).1 in absurd (cc)
 comment_at b (c ∷ bs) h =
-    let g = both (b == 60) (c == 35) h in
+    let g = and_parts (b == 60) (c == 35) h in
     subst (λ x. Explains false (x ∷ c ∷ bs) (comment (x ∷ c ∷ bs))) (sym (equal b 60 g.0))
     (subst (λ x. Explains false (60 ∷ x ∷ bs) (comment (60 ∷ x ∷ bs))) (sym (equal c 35 g.1)) (comment_explained bs))
 
@@ -613,24 +612,20 @@ plain_piece (b ∷ bs) =
       no_close = λ e. absurd (cc);
     }))))))
 
-or_false : (a b : Bool) → (a || b) ≡ false → (a ≡ false) × (b ≡ false)
-or_false true b h = absurd (cc)
-or_false false b h = (refl, h)
-
 -- breaks_hole is a chain of six tests
 hole_other : (b : ℕ) (bs : List ℕ) → (b == 125) ≡ false → breaks_hole (b ∷ bs) ≡ false → IsOther true b
 hole_other b bs e h =
-    let five = (or_false _ _ h).0 in
-    let four = (or_false _ _ five).0 in
-    let three = (or_false _ _ four).0 in
-    let two = (or_false _ _ three).0 in
-    let one = (or_false _ _ two).0 in
+    let five = (or_parts _ _ h).0 in
+    let four = (or_parts _ _ five).0 in
+    let three = (or_parts _ _ four).0 in
+    let two = (or_parts _ _ three).0 in
+    let one = (or_parts _ _ two).0 in
     record {
-      text = (or_false _ _ four).1;
-      comment = (or_false _ _ three).1;
+      text = (or_parts _ _ four).1;
+      comment = (or_parts _ _ three).1;
       line_feed = one;
-      carriage_return = (or_false _ _ two).1;
-      no_open = λ x. (or_false _ _ five).1;
+      carriage_return = (or_parts _ _ two).1;
+      no_open = λ x. (or_parts _ _ five).1;
       no_close = λ x. e;
     }
 

@@ -1,10 +1,9 @@
 -- The laws of the meaning, carried over to the machine that runs the code: what is seen of both is the same.
-use Rattle.std.proofs.Common.{◌≡◌, ◌≤◌, ◌+◌, ◌-◌, ◌⊎◌, inl, inr, ℕ, zero, suc, ℤ, List, [], ◌∷◌, length, map, Bool, true, false}
+use Rattle.std.proofs.Common.{◌≡◌, ◌≤◌, ◌+◌, ◌-◌, ◌⊎◌, inl, inr, ℕ, zero, suc, ℤ, List, length, map, Bool, true, false}
 use Rattle.std.proofs.Common.{refl, sym, subst, arith}
 use Rattle.std.proofs.Math.Path.{ap, ◌∙◌}
 use Rattle.std.proofs.Math.Nat.{add-suc}
 use Rattle.std.proofs.lemmas.Bool.{cases_lt}
-use Rattle.verse_value.specs.Runs.{Line}
 use Rattle.verse_value.specs.declared.runs.Ending.{Ending}
 use Rattle.verse_value.specs.declared.runs.Ending.TheVariants as ending
 use Rattle.verse_meaning_state.specs.State.{State}
@@ -13,6 +12,7 @@ use Rattle.verse_meaning.specs.Programs.{Program}
 use Rattle.verse_meaning.specs.Runs.{Forest, after, forest_leaves, started}
 use Rattle.verse_meaning.specs.RunLaws.{Begins, GroupsWait, LinesStay, NothingLost, NumbersOnce, StageChances, StepsCounted, count}
 use Rattle.verse_meaning.specs.RunLaws.{stage_state, to_come}
+use Rattle.verse_meaning.proofs.Following.{begins_same, begins_then}
 use Rattle.verse_code_machine.specs.Tasks.{Task, tree_waits}
 use Rattle.verse_code_machine.specs.Runs.{mach, mach_after}
 use Rattle.verse_code_machine.specs.Laws.{RunsEnd, StaysOver}
@@ -29,16 +29,6 @@ use Rattle.verse_lower_laws.proofs.Stages.{told_drawn, told_distinct, told_state
 use Rattle.verse_lower_laws.proofs.Waits.{drawn_counts, none_counts, none_live, old_or_undrawn}
 
 -- ---- lines
-
-begins_same : (xs : List Line) → Begins xs xs
-begins_same [] = tt
-begins_same (x ∷ xs) = (refl, begins_same xs)
-
-begins_then : (xs ys zs : List Line) → Begins xs ys → Begins ys zs → Begins xs zs
-begins_then [] ys zs a b = tt
-begins_then (x ∷ xs) [] zs a b = absurd a
-begins_then (x ∷ xs) (y ∷ ys) [] a b = absurd b
-begins_then (x ∷ xs) (y ∷ ys) (z ∷ zs) a b = (a.0 ∙ b.0, begins_then xs ys zs a.1 b.1)
 
 later_lines : (seen : ℕ → Seen) → ((k : ℕ) → Begins (lines (seen k)) (lines (seen (suc k)))) → (k j : ℕ) →
     Begins (lines (seen k)) (lines (seen (k + j)))

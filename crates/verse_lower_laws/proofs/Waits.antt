@@ -1,19 +1,13 @@
 -- Lists of waits: numbers that are live, distinct and drawn, by how often each stands in a list; which wait is due next.
-use Rattle.std.proofs.Common.{◌≡◌, ◌≤◌, ◌+◌, ◌⊎◌, inl, inr, cond, ℕ, zero, suc, List, [], ◌∷◌, map, Option, Some, None, Bool, true, false}
-use Rattle.std.proofs.Common.{refl, sym, subst, nat_lt, arith}
+use Rattle.std.proofs.Common.{◌≡◌, ◌≤◌, ◌+◌, ◌⊎◌, inl, inr, cond, ℕ, List, [], ◌∷◌, map, Option, Some, None, Bool, true, false}
+use Rattle.std.proofs.Common.{refl, sym, nat_lt, arith}
 use Rattle.std.proofs.Math.Path.{ap}
 use Rattle.verse_meaning_state.specs.State.{State, Given}
 use Rattle.verse_meaning_state.specs.Waits.{Wait, Due, due_of, eqn, has, least, ltn, sooner_of}
+use Rattle.verse_meaning_state.proofs.Numbers.{eqn_yes, eqn_same}
 use Rattle.verse_meaning.specs.RunLaws.{chances, count, to_come}
 use Rattle.lower_simulation_runs.specs.Programs.{Absent, Distinct}
 use Rattle.verse_lower_laws.specs.Laws.{wait_number}
-
-pub eqn_own : (n : ℕ) → eqn n n ≡ true
-eqn_own zero = refl
-eqn_own (suc n) = eqn_own n
-
-eqn_same : (n m : ℕ) → n ≡ m → eqn n m ≡ true
-eqn_same n m e = subst (λ i. eqn n i ≡ true) e (eqn_own n)
 
 never : (c : ℕ) → 1 + c ≤ 0 → ⊥
 never c a = omega (arith, a)
@@ -84,12 +78,12 @@ one_of false e = cc
 absent_of : (n : ℕ) (ws : List Wait) → count n ws ≤ 0 → Absent n (map wait_number ws)
 absent_of n [] a = tt
 absent_of n (w ∷ ws) a = (
-  (λ e. never (count n ws) (omega (arith, a, one_of (eqn n w.number) (eqn_same n w.number e)))),
+  (λ e. never (count n ws) (omega (arith, a, one_of (eqn n w.number) (eqn_yes n w.number e)))),
   absent_of n ws (omega (arith, a)),
 )
 
 own_one : (w : Wait) → 1 ≤ cond (eqn w.number w.number) 1 0
-own_one w = one_of (eqn w.number w.number) (eqn_own w.number)
+own_one w = one_of (eqn w.number w.number) (eqn_same w.number)
 
 pub distinct_of : (s : State) (ws : List Wait) → ((i : ℕ) → chances i s ws ≤ 1) → Distinct (map wait_number ws)
 distinct_of s [] h = tt
@@ -128,7 +122,7 @@ or_behind false h e = e
 
 due_among : (w : Wait) (ws : List Wait) (d : Due) (q : Option Due) → (q ≡ Some d → has d.number ws ≡ true) →
     (d.number ≡ w.number) ⊎ (q ≡ Some d) → has d.number (w ∷ ws) ≡ true
-due_among w ws d q f (inl e) = ap (λ b. cond b true (has d.number ws)) (eqn_same d.number w.number e)
+due_among w ws d q f (inl e) = ap (λ b. cond b true (has d.number ws)) (eqn_yes d.number w.number e)
 due_among w ws d q f (inr e) = or_behind (eqn d.number w.number) (has d.number ws) (f e)
 
 pub due_lives : (s : State) (ws : List Wait) (d : Due) → least s ws ≡ Some d → has d.number ws ≡ true

@@ -1,7 +1,8 @@
 -- The tables of accepted items find each function and method, and each default is that of a field.
-use Rattle.std.proofs.Common.{◌≡◌, ℕ, zero, suc, ◌+◌, Bool, List, [], ◌∷◌, ◌++◌, length, map, Some, None, refl}
-use Rattle.std.proofs.Common.{ap, ◌∙◌, arith}
+use Rattle.std.proofs.Common.{◌≡◌, ℕ, zero, suc, ◌+◌, Bool, List, [], ◌∷◌, length, map, Some, None, refl}
+use Rattle.std.proofs.Common.{ap, ◌∙◌}
 use Rattle.std.proofs.Common.{slice_get}
+use Rattle.verse_base.proofs.Facts.{get_rest, get_mapped}
 use Rattle.verse_tree.specs.ItemTree.{FieldTree, ClassTree, MemberTree, field, method, ItemTree, using, enumeration}
 use Rattle.verse_tree.specs.ItemTree.{class, function}
 use Rattle.verse_names_declarations.specs.Counting.{counted, counts_after, no_counts}
@@ -9,6 +10,7 @@ use Rattle.verse_names_declarations.specs.declared.counting.Counts.{Counts}
 use Rattle.verse_names_declarations.specs.Known.{known}
 use Rattle.verse_sorts.specs.Typing.{at}
 use Rattle.verse_meaning_state.specs.Waits.{nth}
+use Rattle.verse_meaning_state.proofs.Numbers.{nth_is}
 use Rattle.verse_meaning.specs.Programs.{Program, classes, own_fields, fields_from, parent_of}
 use Rattle.verse_sound_rules.specs.Forms.{is_default}
 use Rattle.verse_sound_rules.specs.Found as rules
@@ -17,10 +19,9 @@ use Rattle.lower_sound.specs.Programs.{FunctionFound, MethodFound, DefaultFound,
 use Rattle.verse_accept_classes.specs.Owners.{Owned, methods_owned, owned}
 use Rattle.verse_accept_classes.specs.Referring as items
 use Rattle.verse_accept_classes.specs.Laws.{Quiet, FunctionsStand, info_of}
-use Rattle.verse_accept_classes.proofs.Fields.{nth_is}
 use Rattle.verse_accept_classes.proofs.Tables.{fields_agree_all}
 use Rattle.verse_accept_fine.specs.Sorted.{class_in, field_sort, sorted, program}
-use Rattle.verse_accept_fine.proofs.Names.{get_map, get_map_slice}
+use Rattle.verse_accept_fine.proofs.Names.{get_map}
 use Rattle.verse_accept_fine.proofs.Calls.{this_of}
 
 -- each of a list has its place in it
@@ -34,11 +35,6 @@ further y xs (z ∷ ys) h = ((suc h.0.0, h.0.1), further y xs ys h.1)
 all_at : {X : Type 0} (xs : List X) → Each (At xs) xs
 all_at [] = tt
 all_at (x ∷ xs) = ((0, refl), further x xs xs (all_at xs))
-
-get_rest : {X : Type 0} (xs ys : List X) (n : ℕ) → slice_get (xs ++ ys) (n + length xs) ≡ slice_get ys n
-get_rest [] ys n = let e : n + 0 ≡ n = omega arith in ap (slice_get ys) e
-get_rest (x ∷ xs) ys n = let e : n + length (x ∷ xs) ≡ suc (n + length xs) = omega arith in
-    ap (slice_get (x ∷ xs ++ ys)) e ∙ get_rest xs ys n
 
 module _ (is : List ItemTree) (quiet : Quiet is) (functions : FunctionsStand is) (arrays events : ℕ → Bool) where
   abbrev whole : Program
@@ -81,7 +77,7 @@ module _ (is : List ItemTree) (quiet : Quiet is) (functions : FunctionsStand is)
       let slot : at (found.slots h.0) own.0 ≡ Some (field_sort (info_of is d)) =
       ap (λ l. at (map field_sort l) own.0) (fields_agree_all is quiet h.0)
       ∙ get_map field_sort (map (info_of is) (items.fields_of is h.0)) own.0 (info_of is d)
-      (get_map_slice (info_of is) (items.fields_of is h.0) own.0 d field) in
+      (get_mapped (info_of is) (items.fields_of is h.0) own.0 d field) in
       (_, is_default h.0 own.0 d (nth_is (items.fields_of is h.0) own.0 ∙ field) e slot)
 
   -- ---- all items

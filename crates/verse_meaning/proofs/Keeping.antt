@@ -111,7 +111,7 @@ task_then m w u (sleeps s x) a b = (b.0, apart_then m w u x a b.1)
 pub state_leaves : (m : Bool) (w : World) (s : State) → Calm w.state.clock s.clock → Leaves m w (with_state w s)
 state_leaves m w s a = leaves_weak m w (with_state w s) (refl, (refl, a))
 
-stepped_calm : (l : ℕ) (s : State) → Calm s.clock (stepped l s).clock
+pub stepped_calm : (l : ℕ) (s : State) → Calm s.clock (stepped l s).clock
 stepped_calm l s = record { now = refl; next = refl; results = refl; signals = refl }
 
 -- each combinator; what follows is asked for in any world that is left so

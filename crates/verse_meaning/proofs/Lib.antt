@@ -1,4 +1,5 @@
-mod Keeping
+pub mod Names
+pub mod Keeping
 mod Forms
 mod Evaluating
 mod Going
@@ -6,7 +7,7 @@ mod Standing
 mod Contexts
 mod Backwards
 mod Groups
-mod Following
+pub mod Following
 mod FollowingForms
 mod FollowingEvaluating
 mod FollowingGoing

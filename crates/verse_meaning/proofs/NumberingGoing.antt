@@ -37,6 +37,7 @@ use Rattle.verse_meaning.proofs.NumberingEvaluating.{statements_fits}
 use Rattle.verse_meaning.proofs.Evaluating.{clauses_keep}
 use Rattle.verse_meaning.proofs.Going.{deeper_keeps}
 use native.Mathlib.Omega.{arith}
+use Rattle.verse_meaning_state.proofs.Numbers.{eqn_same}
 
 -- a number that is woken
 abbrev hit : (i n : ℕ) → List Wait → ℕ
@@ -315,10 +316,6 @@ main_fits : (i b steps : ℕ) (s : State) (go : State → Stage Forest) → ((l 
     StageChances i b (main_spends steps s go)
 unfolding main_spends
 main_fits i b steps s go f = spent_stage i b steps s _ go tt f
-
-eqn_same : (n : ℕ) → eqn n n ≡ true
-eqn_same zero = refl
-eqn_same (suc n) = eqn_same n
 
 own_hit : (n : ℕ) (ws : List Wait) → has n ws ≡ true → hit n n ws ≡ 1
 own_hit n ws e = ap (λ b. cond b (cond (eqn n n) 1 0) 0) e ∙ ap (λ b. cond b 1 0) (eqn_same n)

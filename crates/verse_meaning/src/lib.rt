@@ -2,6 +2,9 @@
 //! `Residuals`, `Outcomes`, `Forms` (forms with operands, applied), `Evaluating` (one case for each
 //! form, starts, cancelling), `Resuming`, `Runs` (calls, the forest, turns, whole runs), `Laws`,
 //! `RunLaws`.
+//!
+//! The public lemmas, which crates above cite, are those of `proofs/Names`, `proofs/Following` and
+//! `proofs/Keeping`.
 #![tactic(auto)]
 
 ghost use Rattle.verse_meaning.specs.Laws.{

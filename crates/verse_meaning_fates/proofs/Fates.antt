@@ -12,18 +12,9 @@ use Rattle.verse_meaning.specs.RunLaws.{count, chances, StageChances, NumbersOnc
 use Rattle.verse_meaning_fates.specs.Fates.{due_within, next_woken, is_number, chances_in, woken_by, cancelled_by}
 use Rattle.verse_meaning_fates.specs.Fates.{woken_in, cancelled_in, Stands, EachHasOneFate}
 use native.Mathlib.Omega.{arith}
+use Rattle.verse_meaning_state.proofs.Numbers.{eqn_is, eqn_same}
 
 -- ---- which wait is due
-
-eqn_same : (n : ℕ) → eqn n n ≡ true
-eqn_same zero = refl
-eqn_same (suc n) = eqn_same n
-
-eqn_is : (i n : ℕ) → eqn i n ≡ true → i ≡ n
-eqn_is zero zero e = refl
-eqn_is zero (suc n) e = cc
-eqn_is (suc i) zero e = cc
-eqn_is (suc i) (suc n) e = ap suc (eqn_is i n e)
 
 -- one of two, by a test
 chosen : (b : Bool) (x y : Option Due) (d : Due) → cond b x y ≡ Some d → (x ≡ Some d) ⊎ (y ≡ Some d)

@@ -1,6 +1,6 @@
 -- One step up from a class.
 use Rattle.std.proofs.Common.{◌≡◌, ℕ, zero, suc, ◌+◌, ◌-◌, ◌<◌, ◌≤◌, Bool, true, false, cond, nat_eq, List, [], ◌∷◌, ◌++◌, refl, ap, sym}
-use Rattle.std.proofs.Common.{◌∙◌, arith, append_assoc}
+use Rattle.std.proofs.Common.{◌∙◌, arith, append_assoc, append-nil}
 use Rattle.std.specs.Prelude.{Some, None, slice_get}
 use Rattle.verse_rules_types.specs.Types.{Class}
 use Rattle.verse_rules_types.specs.Fitting.{parent_of}
@@ -13,10 +13,6 @@ down n i h = omega arith
 
 none : (n i : ℕ) → n ≤ i → n - i ≡ zero
 none n i h = omega arith
-
-append_nil : (xs : List ℕ) → xs ++ [] ≡ xs
-append_nil [] = refl
-append_nil (x ∷ xs) = ap (λ l. x ∷ l) (append_nil xs)
 
 -- a class, and those behind it
 split : (c d : ℕ) (ds : List ℕ) → others c (d ∷ ds) ≡ others c (d ∷ []) ++ others c ds
@@ -35,7 +31,7 @@ module _ (cs : List Class) (found : List ℕ) where
   top n i c h e = ap (λ m. found ++ line cs m c) (down n i h) ∙ ap (λ o. found ++ c ∷ on_class o (line cs (n - (i + 1)))) e
 
   pub end : (n i c : ℕ) → n ≤ i → found ++ line cs (n - i) c ≡ found
-  end n i c h = ap (λ m. found ++ line cs m c) (none n i h) ∙ append_nil found
+  end n i c h = ap (λ m. found ++ line cs m c) (none n i h) ∙ append-nil found
 
   pub other_up : (d n i c p : ℕ) → i < n → parent_of cs c ≡ Some p → found ++ others d (line cs (n - i) c) ≡ (found ++ others d (c ∷ [])) ++
       others d (line cs (n - (i + 1)) p)
@@ -48,7 +44,7 @@ module _ (cs : List Class) (found : List ℕ) where
       ap (λ o. found ++ others d (c ∷ on_class o (line cs (n - (i + 1))))) e
 
   pub other_end : (d n i c : ℕ) → n ≤ i → found ++ others d (line cs (n - i) c) ≡ found
-  other_end d n i c h = ap (λ m. found ++ others d (line cs m c)) (none n i h) ∙ append_nil found
+  other_end d n i c h = ap (λ m. found ++ others d (line cs m c)) (none n i h) ∙ append-nil found
 
 -- the last class of a list comes first
 pub last_notes : (ns : List Note) (c : ℕ) (ds : List ℕ) (d : ℕ) (m : Members) →

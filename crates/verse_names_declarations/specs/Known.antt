@@ -14,8 +14,8 @@ use Rattle.verse_names_declarations.specs.Functions.{Function, fun_function, fun
 use Rattle.verse_names_declarations.specs.Counting.{Counted, counted, counted_of, no_counts}
 use Rattle.verse_names_declarations.specs.Counting.{named_as, named_type_as, named_class_as}
 use Rattle.verse_names_declarations.specs.declared.counting.Counts.{Counts}
+pub use Rattle.verse_names_declarations.specs.Notes.{Note, notes_in, notes, note_of}
 use Rattle.verse_names_declarations.specs.declared.indexing.Index.{Index as MadeIndex}
-use Rattle.verse_names_declarations.specs.declared.indexing.Note.{Note as MadeNote}
 use Rattle.verse_names_declarations.specs.declared.known.Known.{Known as Made}
 
 -- what the names of items stand for; of several items of one name the first counts
@@ -40,22 +40,6 @@ index_all (i ∷ is) x = index_all is (indexed i x)
 
 abbrev pub no_index : Index
 no_index = record { items = []; repeated = []; types = []; classes = [] }
-
--- a class as it is written, and the number of its first method
-pub record Note : Type 0 where
-  pub item : ClassTree
-  pub first : ℕ
-
-abbrev pub notes_in : ItemTree → Counts → List Note
-notes_in (using u) n = []
-notes_in (enumeration e) n = []
-notes_in (class c) n = record { item = c; first = n.funs } ∷ []
-notes_in (function f) n = []
-
--- all classes, by their numbers
-abbrev pub notes : List Counted → List Note
-notes [] = []
-notes (i ∷ is) = notes_in i.item i.before ++ notes is
 
 abbrev pub class_number : Option Ref → Option ℕ
 class_number None = None
@@ -121,14 +105,11 @@ index_of x = record {
   classes = table_of x.classes;
 }
 
-abbrev pub note_of : MadeNote → Note
-note_of n = record { item = class_of n.item.now; first = n.first }
-
 abbrev pub known_of : Made → Known
 known_of k = record {
   items = map counted_of k.items.items;
   index = index_of k.index;
-  notes = map note_of k.notes.items;
-  outline = classes_of k.outline;
+  notes = map note_of k.lineage.notes.items;
+  outline = classes_of k.lineage.outline;
   functions = map function_of k.functions;
 }

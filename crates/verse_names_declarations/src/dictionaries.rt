@@ -116,6 +116,21 @@ impl<'a> Calls<'a> {
         }
     }
 
+    /// How many names there are.
+    pub fn count(&self) -> usize
+        ensures { result ≡ length (roll_of self.now) }
+    {
+        self.map.len()
+    }
+
+    /// Where the name stands, from 0.
+    #[tactic(auto, using(crate::proofs::Looking::place_map))]
+    pub fn place(&self, name: &[u8]) -> Option<usize>
+        ensures { result ≡ place name.now (roll_of self.now) }
+    {
+        self.map.get_index_of(name)
+    }
+
     #[tactic(auto, using(crate::proofs::Looking::look_map))]
     fn find(&self, name: &[u8]) -> Option<bool>
         ensures { result ≡ look name.now (roll_of self.now) }

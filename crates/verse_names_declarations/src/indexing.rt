@@ -15,9 +15,11 @@ ghost use Rattle.verse_names_declarations.specs.Naming.{named_of};
 use crate::counting::{Counted, Counts};
 use crate::dictionaries::{Calls, Dict};
 use crate::words::has;
+use shared_list::SharedList;
 use sqlite_items::Items;
 use std::alloc::Global;
 use verse_base::refusals::Memory;
+use verse_tree::fields::FieldList;
 use verse_tree::items::{ClassItem, Item};
 use verse_tree::names::Name;
 use verse_tree::tables::{ClassInfo, Ref};
@@ -190,14 +192,14 @@ fn parent_number(classes: &Dict, parent: &Option<Name>) -> Option<u32>
     }
 }
 
-fn outlined(alloc: Global, classes: &Dict, note: &Note) -> ClassInfo
+fn outlined(classes: &Dict, note: &Note) -> ClassInfo
     ensures { info result ≡ outlined (table_of classes.now) (note_of note.now) }
 {
     ClassInfo {
         parent: parent_number(classes, &note.item.parent),
         is_unique: has(note.item.class_specs.as_slice(), b"unique"),
-        fields: Items::new(alloc),
-        methods: Items::new(alloc),
+        fields: FieldList::new(),
+        methods: SharedList::new(),
     }
 }
 
@@ -208,7 +210,7 @@ pub fn outline(alloc: Global, classes: &Dict, notes: &[Note]) -> Result<Items<Cl
 {
     let mut found = Items::new(alloc);
     'notes: for note in notes {
-        found.push(outlined(alloc, classes, note))?;
+        found.push(outlined(classes, note))?;
     }
     Ok(found)
 }

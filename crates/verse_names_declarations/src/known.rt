@@ -12,24 +12,23 @@ ghost use Rattle.verse_names_declarations.specs.Known.{functions, known, known_o
 use crate::counting::{Counted, count_items};
 use crate::dictionaries::Dict;
 use crate::functions::function;
-use crate::indexing::{Index, Note, index_items, note_classes, outline};
+use crate::indexing::{Index, index_items, note_classes, outline};
+use crate::lineage::{Lineage, trace};
 use sqlite_items::Items;
 use std::alloc::Global;
 use verse_base::refusals::Memory;
 use verse_tree::items::{Item, Member};
-use verse_tree::tables::{ClassInfo, FunInfo};
+use verse_tree::tables::FunInfo;
 
 /// What is known of the items.
 #[derive(Drop)]
 pub struct Known<'a> {
     pub items: Vec<Counted<'a>>,
     pub index: Index<'a>,
-    /// The classes, by their numbers.
-    pub notes: Vec<Note<'a>>,
-    /// The classes with their parents, and without their members.
-    pub outline: Items<ClassInfo>,
     /// All functions and methods, by their numbers.
     pub functions: Items<FunInfo>,
+    /// The classes, with their parents and members.
+    pub lineage: Lineage<'a>,
 }
 
 fn add_member(
@@ -104,11 +103,11 @@ pub fn know<'a>(alloc: Global, items: &'a [Item]) -> Result<Known<'a>, Memory>
     let notes = note_classes(alloc, &items)?;
     let outline = outline(alloc, &index.classes, &notes)?;
     let functions = functions(alloc, &index.types, &items)?;
+    let lineage = trace(alloc, notes, outline)?;
     Ok(Known {
         items,
         index,
-        notes,
-        outline,
         functions,
+        lineage,
     })
 }

@@ -7,9 +7,12 @@
 #![tactic(auto)]
 
 pub mod counting;
+pub mod descents;
 pub mod dictionaries;
 pub mod functions;
 pub mod indexing;
 pub mod known;
+pub mod lineage;
 pub mod members;
+pub mod shared_names;
 pub mod words;

@@ -4,33 +4,41 @@ ghost use Rattle.std.specs.Prelude.{◌≡◌, ◌++◌, ◌∷◌, [], map, IfO
 ghost use Rattle.verse_tree.specs.ItemView.{member_of};
 ghost use Rattle.verse_rules_types.specs.Types.{classes_of};
 ghost use Rattle.verse_names_declarations.specs.Views.{roll_of};
-ghost use Rattle.verse_names_declarations.specs.Names.{call_all};
+ghost use Rattle.verse_names_declarations.specs.Names.{call_all, look, place, meanings};
 ghost use Rattle.verse_names_declarations.specs.Known.{note_of, known_of};
 ghost use Rattle.verse_names_declarations.specs.Lines as lines;
 ghost use Rattle.verse_names_declarations.specs.Lines.{others, with_member, with_members};
-ghost use Rattle.verse_names_declarations.specs.Lines.{with_note};
+ghost use Rattle.verse_names_declarations.specs.Lines.{with_note, with_function, as_of, bare};
+ghost use Rattle.verse_names_declarations.specs.Lines.{fun_numbers, stands};
+ghost use Rattle.verse_tree.specs.declared.tables.Ref.TheVariants as ref;
 ghost use Rattle.verse_names_declarations.specs.Lines.{members_of, no_members, all_members};
 ghost use Rattle.verse_names_declarations.specs.Lines.{member_name};
 ghost use Rattle.verse_names_declarations.specs.Lines.{members_view, home_of};
 
 use crate::counting::{fun_after, next};
-use crate::dictionaries::{Calls, Dict};
+use crate::dictionaries::Calls;
 use crate::indexing::Note;
 use crate::known::Known;
+use crate::shared_names::SharedNames;
+use shared_list::SharedList;
 use sqlite_items::Items;
 use std::alloc::Global;
+use std::mem::replace;
+use std::rc::Rc;
 use verse_base::refusals::Memory;
 use verse_rules_types::classes::parent;
 use verse_tree::items::Member;
 use verse_tree::tables::{ClassInfo, Ref};
 
 /// The names of all fields, each with its place, and of all methods, each with its function.
+/// Classes share the names that they have from the same ancestors.
 #[derive(Drop)]
 pub struct Members<'a> {
-    pub fields: Dict<'a>,
+    class: u32,
+    fields: SharedNames<'a>,
     /// How many fields there are.
-    pub count: u32,
-    pub methods: Dict<'a>,
+    count: u32,
+    methods: SharedNames<'a>,
 }
 
 /// What a member of a class stands beside: the names of the class itself, and what it inherits.
@@ -85,55 +93,157 @@ fn ancestors(alloc: Global, outline: &[ClassInfo], class: u32) -> Result<Items<u
     Ok(found)
 }
 
+fn as_function(fun: Option<u32>) -> Option<Ref>
+    ensures { result ≡ stands ref.Fun fun }
+{
+    match fun {
+        None => None,
+        Some(fun) => Some(Ref::Fun(fun)),
+    }
+}
+
 impl<'a> Members<'a> {
-    fn new(alloc: Global) -> Members<'a>
-        ensures { members_view result ≡ no_members }
+    /// Of no class, where these names may come.
+    pub fn new(alloc: Global, known: Rc<Calls<'a>>) -> Result<Members<'a>, Memory>
+        ensures { IfOk result (λ m. members_view m ≡ no_members) }
     {
-        Members {
-            fields: Dict::new(alloc),
+        let fields = SharedNames::new(alloc, known)?;
+        let methods = fields.copy()?;
+        Ok(Members {
+            class: 0,
+            fields,
             count: 0,
-            methods: Dict::new(alloc),
+            methods,
+        })
+    }
+
+    /// The same members, as those of this class.
+    #[tactic(auto, using(crate::proofs::Membering::fields_moved))]
+    pub fn copy(&self, class: u32) -> Result<Members<'a>, Memory>
+        ensures view { IfOk result (λ m. members_view m ≡ as_of class (members_view self.now)) }
+        ensures class { IfOk result (λ m. m.class ≡ class) }
+    {
+        Ok(Members {
+            class,
+            fields: self.fields.copy()?,
+            count: self.count,
+            methods: self.methods.copy()?,
+        })
+    }
+
+    /// The field of this name.
+    #[tactic(auto, using(crate::proofs::Membering::field_at))]
+    pub fn field(&self, name: &[u8]) -> Option<Ref>
+        ensures { result ≡ look name.now (members_view self.now).fields }
+    {
+        self.as_field(self.fields.find(name))
+    }
+
+    fn as_field(&self, place: Option<u32>) -> Option<Ref>
+        ensures { result ≡ stands (ref.Field self.now.class) place }
+    {
+        match place {
+            None => None,
+            Some(place) => Some(Ref::Field(self.class, place)),
         }
     }
 
-    fn add_field(&mut self, class: u32, name: &'a [u8]) -> Result<(), Memory>
-        ensures { OnOk result (members_view self.new ≡
-            lines.with_field class name.now (members_view self.old)) }
+    /// The function of the method of this name.
+    #[tactic(auto, using(crate::proofs::Membering::method_at))]
+    pub fn method(&self, name: &[u8]) -> Option<Ref>
+        ensures { result ≡ look name.now (members_view self.now).methods }
+    {
+        as_function(self.methods.find(name))
+    }
+
+    /// Where the method of this name stands among all methods.
+    #[tactic(auto, using(crate::proofs::Membering::method_placed))]
+    pub fn method_place(&self, name: &[u8]) -> Option<u32>
+        ensures { result ≡ place name.now (members_view self.now).methods }
+    {
+        self.methods.place(name)
+    }
+
+    /// What a bare name stands for in a method: the field, or else the method of this name.
+    pub fn bare(&self, name: &[u8]) -> Option<Ref>
+        ensures { result ≡ bare name.now self.now.class (members_view self.now) }
+    {
+        if let Some(field) = self.field(name) {
+            return Some(field);
+        }
+        match self.method_place(name) {
+            None => None,
+            Some(place) => Some(Ref::Method(self.class, place)),
+        }
+    }
+
+    /// The functions of all methods, in order.
+    #[tactic(auto, using(crate::proofs::Membering::functions_are))]
+    pub fn functions(&self) -> &SharedList<u32>
+        ensures { result.now ≡ fun_numbers (meanings (members_view self.now).methods) }
+    {
+        self.methods.numbers()
+    }
+
+    #[tactic(auto, using(crate::proofs::Membering::field_kept))]
+    fn add_field(&mut self, alloc: Global, name: &'a [u8]) -> Result<(), Memory>
+        ensures view { OnOk result (members_view self.new ≡
+            lines.with_field self.old.class name.now (members_view self.old)) }
+        ensures class { OnOk result (self.new.class ≡ self.old.class) }
     {
         let place = self.count;
         self.count = next(place)?;
-        self.fields.keep(name, Ref::Field(class, place))
+        let fields = self.fields.kept(alloc, name, place)?;
+        let _before = replace(&mut self.fields, fields);
+        Ok(())
     }
 
-    fn add_member(&mut self, class: u32, fun: u32, member: &'a Member) -> Result<(), Memory>
-        ensures { OnOk result (members_view self.new ≡ with_member class fun (member_of member.now)
-            (members_view self.old)) }
+    #[tactic(auto, using(crate::proofs::Membering::method_put))]
+    fn add_method(&mut self, alloc: Global, name: &'a [u8], fun: u32) -> Result<(), Memory>
+        ensures view { OnOk result (members_view self.new ≡
+            with_function name.now fun (members_view self.old)) }
+        ensures class { OnOk result (self.new.class ≡ self.old.class) }
+    {
+        let methods = self.methods.with(alloc, name, fun)?;
+        let _before = replace(&mut self.methods, methods);
+        Ok(())
+    }
+
+    fn add_member(&mut self, alloc: Global, fun: u32, member: &'a Member) -> Result<(), Memory>
+        ensures view { OnOk result (members_view self.new ≡
+            with_member self.old.class fun (member_of member.now) (members_view self.old)) }
+        ensures class { OnOk result (self.new.class ≡ self.old.class) }
     {
         match member {
-            Member::Field(field) => self.add_field(class, field.name.as_slice()),
-            Member::Method(method) => self.methods.put(method.name.as_slice(), Ref::Fun(fun)),
+            Member::Field(field) => self.add_field(alloc, field.name.as_slice()),
+            Member::Method(method) => self.add_method(alloc, method.name.as_slice(), fun),
         }
     }
 
-    fn add_members(&mut self, class: u32, fun: u32, members: &'a [Member]) -> Result<(), Memory>
-        ensures { OnOk result (members_view self.new ≡
-            with_members class fun (map member_of members.now) (members_view self.old)) }
+    /// Adds those of one class, its first method being the function `fun`.
+    fn add_members(&mut self, alloc: Global, fun: u32, members: &'a [Member]) -> Result<(), Memory>
+        ensures view { OnOk result (members_view self.new ≡
+            with_members self.old.class fun (map member_of members.now) (members_view self.old)) }
+        ensures class { OnOk result (self.new.class ≡ self.old.class) }
     {
         let mut at = fun;
         'members: for member in members {
-            self.add_member(class, at, member)?;
+            self.add_member(alloc, at, member)?;
             at = fun_after(member, at)?;
         }
         Ok(())
     }
 
-    fn add_note(&mut self, class: u32, notes: &[Note<'a>], at: u32) -> Result<(), Memory>
-        ensures { OnOk result (members_view self.new ≡
-            with_note class (slice_get (map note_of notes.now) at) (members_view self.old)) }
+    /// Adds those of the class of this number.
+    pub fn add_note(&mut self, alloc: Global, notes: &[Note<'a>], at: u32) -> Result<(), Memory>
+        ensures view { OnOk result (members_view self.new ≡
+            with_note self.old.class (slice_get (map note_of notes.now) at)
+            (members_view self.old)) }
+        ensures class { OnOk result (self.new.class ≡ self.old.class) }
     {
         match notes.get(at as usize) {
             None => Ok(()),
-            Some(note) => self.add_members(class, note.first, note.item.members.as_slice()),
+            Some(note) => self.add_members(alloc, note.first, note.item.members.as_slice()),
         }
     }
 }
@@ -142,29 +252,66 @@ impl<'a> Members<'a> {
 #[tactic(auto, using(crate::proofs::Climbing::last_notes))]
 fn members_of<'a>(
     alloc: Global,
-    notes: &[Note<'a>],
+    known: &Known<'a>,
     class: u32,
     line: &mut Items<u32>,
 ) -> Result<Members<'a>, Memory>
     ensures { IfOk result (λ m. members_view m ≡
-        members_of (map note_of notes.now) class line.old) }
+        members_of (map note_of known.now.lineage.notes.items) class line.old) }
 {
-    let mut found = Members::new(alloc);
+    let mut found = known.lineage.nothing(class)?;
     'classes: while let Some(at) = line.pop() {
-        found.add_note(class, notes, at)?;
+        found.add_note(alloc, &known.lineage.notes, at)?;
     }
     Ok(found)
 }
 
 /// All members of a class, the root's first.
+#[tactic(auto, using(crate::proofs::Descending::all_told_ok))]
 pub fn all_members<'a>(alloc: Global, known: &Known<'a>, class: u32) -> Result<Members<'a>, Memory>
     ensures { IfOk result (λ m. members_view m ≡ all_members (known_of known.now) class) }
 {
-    let mut line = line_of(alloc, known.outline.as_slice(), class)?;
-    members_of(alloc, &known.notes, class, &mut line)
+    match known.lineage.descent(class) {
+        Some(descent) => descent.members.copy(class),
+        None => climbed_members(alloc, known, class),
+    }
 }
 
-fn name_of(member: &Member) -> &[u8]
+fn climbed_members<'a>(alloc: Global, known: &Known<'a>, class: u32) -> Result<Members<'a>, Memory>
+    ensures { IfOk result (λ m. members_view m ≡ all_members (known_of known.now) class) }
+{
+    let mut line = line_of(alloc, known.lineage.outline.as_slice(), class)?;
+    members_of(alloc, known, class, &mut line)
+}
+
+/// The members of a class without those of its own.
+#[tactic(auto, using(crate::proofs::Descending::of_above))]
+fn members_above<'a>(alloc: Global, known: &Known<'a>, class: u32) -> Result<Members<'a>, Memory>
+    ensures { IfOk result (λ m. members_view m ≡
+        lines.members_above (known_of known.now) class) }
+{
+    let Some(_own) = known.lineage.descent(class) else {
+        return climbed_above(alloc, known, class);
+    };
+    match parent(known.lineage.outline.as_slice(), class) {
+        None => known.lineage.nothing(class),
+        Some(up) => match known.lineage.descent(up) {
+            None => climbed_above(alloc, known, class),
+            Some(descent) => descent.members.copy(class),
+        },
+    }
+}
+
+fn climbed_above<'a>(alloc: Global, known: &Known<'a>, class: u32) -> Result<Members<'a>, Memory>
+    ensures { IfOk result (λ m. members_view m ≡
+        lines.members_above (known_of known.now) class) }
+{
+    let mut line = ancestors(alloc, known.lineage.outline.as_slice(), class)?;
+    members_of(alloc, known, class, &mut line)
+}
+
+/// The name of a member.
+pub fn name_of(member: &Member) -> &[u8]
     ensures { result.now ≡ member_name (member_of member.now) }
 {
     match member {
@@ -195,7 +342,6 @@ pub fn make_home<'a>(
         lines.home (known_of known.now) class (map member_of members.now)) }
 {
     let own = names_of(alloc, members)?;
-    let mut line = ancestors(alloc, known.outline.as_slice(), class)?;
-    let above = members_of(alloc, &known.notes, class, &mut line)?;
+    let above = members_above(alloc, known, class)?;
     Ok(Home { own, above })
 }

@@ -1,3 +1,5 @@
 pub mod Fields
 pub mod Passing
 pub mod Numbered
+mod Straight
+mod Making

@@ -1,8 +1,11 @@
 -- The nodes with what the rules ask are those of the program, at their places, and so their numbers rise.
-use Rattle.std.proofs.Common.{◌≡◌, ℕ, zero, suc, ◌+◌, List, [], ◌∷◌, ◌++◌, map, length, refl, ap, sym, ◌∙◌, arith, subst}
+use Rattle.std.proofs.Common.{◌≡◌, ℕ, suc, ◌+◌, List, [], ◌∷◌, ◌++◌, map, length, refl, ap, sym, ◌∙◌, subst}
 use Rattle.std.specs.Prelude.{Option, Some, None, slice_get}
 use Rattle.std.specs.List.{range_with_len}
+use Rattle.std.proofs.lemmas.List.{map-append}
+use Rattle.std.proofs.lemmas.List.FromFn.{length-range_with_len}
 use Rattle.verse_base.specs.declared.places.Place.{Place}
+use Rattle.verse_base.proofs.Facts.{one_more}
 use Rattle.verse_tree.specs.Tree.{Written, Writtens, no_writtens, more_writtens}
 use Rattle.verse_tree.specs.Tree as t
 use Rattle.verse_tree.specs.ItemTree.{ParamTree, FunTree, FieldTree, MemberTree, ItemTree}
@@ -11,7 +14,7 @@ use Rattle.verse_tree.specs.Numbers.{numbers}
 use Rattle.verse_tree.specs.Numbering.{items_numbered, program_nodes}
 use Rattle.verse_tree.specs.PostOrder.{Node, written_order, writtens_order, post_order, default_order, param_order, params_order, fun_parts}
 use Rattle.verse_tree.specs.PostOrder.{field_parts, member_order, members_order, item_order, items_order, program_order}
-use Rattle.verse_tree.proofs.Order.{program_in_order}
+use Rattle.verse_tree.proofs.Order.{program_in_order, numbers_length}
 use Rattle.verse_rules_least.specs.Least.{InOrder, Placed}
 use Rattle.verse_rules_least.specs.declared.faults.Fault.{Fault}
 use Rattle.verse_rules_least.proofs.Ordered.{in_order}
@@ -34,13 +37,10 @@ stands_at n = (n.number, n.place)
 abbrev Agree : List Declared → List Node → Type 0
 Agree vs ns = map declared_at vs ≡ map stands_at ns
 
-append : {A B : Type 0} (f : A → B) (vs ws : List A) → map f (vs ++ ws) ≡ map f vs ++ map f ws
-append f [] ws = refl
-append f (v ∷ vs) ws = ap (λ l. f v ∷ l) (append f vs ws)
-
 both : (vs ws : List Declared) (ms ns : List Node) → Agree vs ms → Agree ws ns → Agree (vs ++ ws) (ms ++ ns)
 both vs ws ms ns e f =
-    append declared_at vs ws ∙ ap (λ l. l ++ map declared_at ws) e ∙ ap (λ l. map stands_at ms ++ l) f ∙ sym (append stands_at ms ns)
+    map-append declared_at vs ws ∙ ap (λ l. l ++ map declared_at ws) e ∙ ap (λ l. map stands_at ms ++ l) f ∙
+    sym (map-append stands_at ms ns)
 
 quiet_agree : (ns : List Node) → Agree (map quiet_node ns) ns
 quiet_agree [] = refl
@@ -126,21 +126,9 @@ program_numbers is = parts_agree (λ x. x.0) (program_declared (known is) is) (p
 program_places : (is : List ItemTree) → map place_of (program_declared (known is) is) ≡ map (λ (n : Node). n.place) (program_order is)
 program_places is = parts_agree (λ x. x.1) (program_declared (known is) is) (program_order is) (program_agree is)
 
-numbers_length : (ns : List Node) → length (numbers ns) ≡ length ns
-numbers_length [] = refl
-numbers_length (n ∷ ns) = ap suc (numbers_length ns)
-
 declared_length : (vs : List Declared) → length (map number_of vs) ≡ length vs
 declared_length [] = refl
 declared_length (v ∷ vs) = ap suc (declared_length vs)
-
-range_length : (n a : ℕ) → length (range_with_len n a) ≡ a
-range_length n zero = refl
-range_length n (suc a) = ap suc (range_length (n + 1) a)
-
-one_more : (ms : List Node) (n : Node) → length (ms ++ n ∷ []) ≡ length ms + 1
-one_more [] n = omega arith
-one_more (m ∷ ms) n = let h = one_more ms n in omega arith
 
 module _ (written : List ItemTree) where
   in_row : numbers (program_order (items_numbered written 0)) ≡ range_with_len 0 (program_nodes written)
@@ -151,7 +139,7 @@ module _ (written : List ItemTree) where
   last_is =
       let is = items_numbered written 0 in
       let whole : length (program_order is) ≡ program_nodes written = sym (numbers_length (program_order is)) ∙ ap length in_row ∙
-      range_length 0 (program_nodes written) in
+      length-range_with_len 0 (program_nodes written) in
       let more = one_more (items_order is) _ in
       sym more ∙ whole
 
@@ -161,7 +149,8 @@ module _ (written : List ItemTree) where
       let is = items_numbered written 0 in
       let vs = program_declared (known is) is in
       let row : map number_of vs ≡ range_with_len 0 (program_nodes written) = program_numbers is ∙ in_row in
-      let count : length vs ≡ program_nodes written = sym (declared_length vs) ∙ ap length row ∙ range_length 0 (program_nodes written) in
+      let count : length vs ≡ program_nodes written = sym (declared_length vs) ∙ ap length row ∙
+      length-range_with_len 0 (program_nodes written) in
       row ∙ ap (range_with_len 0) (sym count)
 
 pub last_number : (is : List ItemTree) (n : ℕ) → IsNumbered is n → length (items_order is) + 1 ≡ n

@@ -4,14 +4,13 @@ use Rattle.std.specs.Prelude.{option_map, slice_get}
 use Rattle.verse_tree.specs.Tree.{Tree, tree}
 use Rattle.verse_tree.specs.ItemTree.{EnumTree, FieldTree, MemberTree, field, method, ItemTree}
 use Rattle.verse_tree.specs.ItemTree.{using, enumeration, class, function}
-use Rattle.verse_tree.specs.declared.tables.Ref.{Ref}
-use Rattle.verse_tree.specs.declared.tables.Ref.TheVariants as ref
 use Rattle.verse_tree.specs.declared.tables.EnumInfo.{EnumInfo}
 use Rattle.verse_rules_types.specs.Types.{Field, Class, classes_of}
 use Rattle.verse_names_declarations.specs.Names.{Table, meanings}
 use Rattle.verse_names_declarations.specs.Functions.{Function, function_of, spelled}
 use Rattle.verse_names_declarations.specs.Known.{Note, Known, known}
 use Rattle.verse_names_declarations.specs.Lines.{line_of, all_members}
+pub use Rattle.verse_names_declarations.specs.Lines.{fun_number, fun_numbers}
 use Rattle.verse_names_items.specs.declared.tables.Tables.{Tables as Made}
 
 abbrev pub tree_number : Tree → ℕ
@@ -42,23 +41,18 @@ abbrev pub fields_of : Table → List Note → List ℕ → List Field
 fields_of ts ns [] = []
 fields_of ts ns (d ∷ ds) = fields_of ts ns ds ++ own_fields ts (note_members (slice_get ns d))
 
-abbrev pub fun_number : Ref → List ℕ
-fun_number (ref.Fun n) = n ∷ []
-fun_number r = []
-
-abbrev pub fun_numbers : List Ref → List ℕ
-fun_numbers [] = []
-fun_numbers (r ∷ rs) = fun_number r ++ fun_numbers rs
-
 abbrev pub methods_of : Known → ℕ → List ℕ
 methods_of k c = fun_numbers (meanings (all_members k c).methods)
+
+abbrev pub class_fields : Known → ℕ → List Field
+class_fields k c = fields_of k.index.types k.notes (line_of k.outline c)
 
 -- a class with all its fields and methods, the root's first
 abbrev pub class_table : Known → ℕ → Class → Class
 class_table k c o = record {
   parent = o.parent;
   is_unique = o.is_unique;
-  fields = fields_of k.index.types k.notes (line_of k.outline c);
+  fields = class_fields k c;
   methods = methods_of k c;
 }
 

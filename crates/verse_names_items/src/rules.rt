@@ -63,8 +63,8 @@ fn is_field_defined(known: &Known, home: &Home, name: &[u8]) -> bool
 {
     is_taken(known, name)
         || home.own.is_repeated(name)
-        || home.above.fields.has(name)
-        || home.above.methods.has(name)
+        || home.above.field(name).is_some()
+        || home.above.method(name).is_some()
 }
 
 /// The least rule that a field breaks.
@@ -85,7 +85,7 @@ pub fn field_code(known: &Known, home: &Home, field: &Field) -> Option<u16>
 fn is_method_defined(known: &Known, home: &Home, name: &[u8]) -> bool
     ensures { result ≡ rules.is_method_defined (known_of known.now) (home_of home.now) name.now }
 {
-    is_taken(known, name) || home.own.is_repeated(name) || home.above.fields.has(name)
+    is_taken(known, name) || home.own.is_repeated(name) || home.above.field(name).is_some()
 }
 
 fn is_same_mark(mark: bool, other: bool) -> bool
@@ -128,7 +128,7 @@ fn can_override(known: &Known, fun: &FunInfo, other: &FunInfo) -> bool
 {
     are_same(fun.params.as_slice(), other.params.as_slice())
         && has_same_effects(&fun.effects, &other.effects)
-        && does_fit(known.outline.as_slice(), &fun.result, &other.result)
+        && does_fit(known.lineage.outline.as_slice(), &fun.result, &other.result)
 }
 
 fn can_override_ref(known: &Known, fun: u32, to: Ref) -> bool
@@ -169,7 +169,7 @@ pub fn method_code(known: &Known, home: &Home, number: u32, fun: &Fun) -> Option
         return Some(OVERRIDE_MISFITS);
     }
     let marked = is_marked(fun.specs.as_slice());
-    if misses_override(known, marked, number, home.above.methods.find(name)) {
+    if misses_override(known, marked, number, home.above.method(name)) {
         return Some(OVERRIDE_MISFITS);
     }
     None
@@ -213,13 +213,25 @@ fn lacks_parent(known: &Known, name: &Option<Name>) -> bool
     }
 }
 
+/// Whether the parents of a class lead back to it; those of a class whose members are made do not.
+#[tactic(auto, using(crate::proofs::Straight::no_circle))]
 fn is_circular(known: &Known, number: u32) -> bool
     ensures { result ≡ rules.leads_to (known_of known.now).outline number
         (fitting.parent_of (known_of known.now).outline number) }
 {
-    match parent(known.outline.as_slice(), number) {
+    match known.lineage.descent(number) {
+        Some(_) => false,
+        None => does_lead_back(known, number),
+    }
+}
+
+fn does_lead_back(known: &Known, number: u32) -> bool
+    ensures { result ≡ rules.leads_to (known_of known.now).outline number
+        (fitting.parent_of (known_of known.now).outline number) }
+{
+    match parent(known.lineage.outline.as_slice(), number) {
         None => false,
-        Some(up) => does_inherit(known.outline.as_slice(), up, number),
+        Some(up) => does_inherit(known.lineage.outline.as_slice(), up, number),
     }
 }
 

@@ -1,6 +1,8 @@
 -- To name the nodes of a program is to visit them, each with what is visible at it; and they are the program's nodes in post-order.
 use Rattle.std.proofs.Common.{◌≡◌, ℕ, Bool, true, false, List, [], ◌∷◌, ◌++◌, map, length, Option, refl, ap, sym, ◌∙◌, append_assoc}
+use Rattle.std.proofs.Common.{append-nil}
 use Rattle.std.specs.Prelude.{Some, None}
+use Rattle.std.proofs.lemmas.List.{map-append}
 use Rattle.verse_base.specs.declared.places.Place.{Place}
 use Rattle.verse_tree.specs.Tree.{Written, Writtens, no_writtens, more_writtens, Tree, tree, Shape, Trees, no_trees, more_trees, Holes}
 use Rattle.verse_tree.specs.Tree.{no_holes, more_holes, Pairs, no_pairs, more_pairs, Givens, no_givens, more_givens}
@@ -55,14 +57,6 @@ pub record Agrees (p : Part) (s : Seen) : Type 0 where
 abbrev pub Agree : Part → Type 0
 Agree p = (s : Seen) → Agrees p s
 
-append_nil : {A : Type 0} (xs : List A) → xs ++ [] ≡ xs
-append_nil [] = refl
-append_nil (x ∷ xs) = ap (λ l. x ∷ l) (append_nil xs)
-
-map_append : {A B : Type 0} (f : A → B) (xs ys : List A) → map f (xs ++ ys) ≡ map f xs ++ map f ys
-map_append f [] ys = refl
-map_append f (x ∷ xs) ys = ap (λ l. f x ∷ l) (map_append f xs ys)
-
 each_last : (vs : List Visit) (v : Visit) (o : Option Fault) → each keep_fault (vs ++ v ∷ []) o ≡ keep_fault v (each keep_fault vs o)
 each_last [] v o = refl
 each_last (x ∷ vs) v o = each_last vs v (keep_fault x o)
@@ -71,7 +65,7 @@ abbrev nothing : Part
 nothing = record { see = λ s. s; name = λ x. x; nodes = [] }
 
 nothing_agrees : Agree nothing
-nothing_agrees s = record { same = refl; grown = grown_none s.locals; shown = sym (append_nil (map visit_stands s.visits)) }
+nothing_agrees s = record { same = refl; grown = grown_none s.locals; shown = sym (append-nil (map visit_stands s.visits)) }
 
 -- one part behind the other
 abbrev then_part : Part → Part → Part
@@ -85,7 +79,7 @@ in_turn {p} {q} f g s = record {
       (g (p.see s)).shown
       ∙ ap (λ l. l ++ map node_stands q.nodes) (f s).shown
       ∙ append_assoc (map visit_stands s.visits) (map node_stands p.nodes) (map node_stands q.nodes)
-      ∙ ap (λ l. map visit_stands s.visits ++ l) (sym (map_append node_stands p.nodes q.nodes));
+      ∙ ap (λ l. map visit_stands s.visits ++ l) (sym (map-append node_stands p.nodes q.nodes));
 }
 
 -- the names of a part are left behind
@@ -123,10 +117,10 @@ node_agrees w n p u x s =
     let with_found : List (Option Ref) → Option Fault → Naming = λ rs f. record { locals = behind; refs = rs; fault = f } in
     record {
       same =
-          ap (λ rs. with_found rs (keep_fault v (each keep_fault s.visits None))) (sym (map_append ref_of s.visits (v ∷ [])))
+          ap (λ rs. with_found rs (keep_fault v (each keep_fault s.visits None))) (sym (map-append ref_of s.visits (v ∷ [])))
           ∙ ap (with_found (map ref_of (s.visits ++ v ∷ []))) (sym (each_last s.visits v None));
       grown = grown_behind w u s.locals;
-      shown = map_append visit_stands s.visits (v ∷ []);
+      shown = map-append visit_stands s.visits (v ∷ []);
     }
 
 module _ (w : World) where

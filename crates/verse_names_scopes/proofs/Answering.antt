@@ -1,13 +1,15 @@
 -- What naming a program finds is what its nodes refer to, and the least rule of names that one of them breaks.
-use Rattle.std.proofs.Common.{◌≡◌, ℕ, zero, suc, ◌+◌, List, [], ◌∷◌, ◌++◌, map, length, Option, refl, ap, sym, ◌∙◌, subst, arith}
+use Rattle.std.proofs.Common.{◌≡◌, ℕ, suc, ◌+◌, List, [], ◌∷◌, map, length, Option, refl, ap, sym, ◌∙◌, subst}
 use Rattle.std.specs.Prelude.{Some, None, slice_get}
 use Rattle.std.specs.List.{range_with_len}
+use Rattle.std.proofs.lemmas.List.FromFn.{length-range_with_len}
 use Rattle.verse_base.specs.declared.places.Place.{Place}
+use Rattle.verse_base.proofs.Facts.{one_more}
 use Rattle.verse_tree.specs.ItemTree.{ItemTree}
 use Rattle.verse_tree.specs.Numbers.{numbers}
 use Rattle.verse_tree.specs.Numbering.{program_nodes}
 use Rattle.verse_tree.specs.PostOrder.{Node, items_order, program_order, program_place}
-use Rattle.verse_tree.proofs.Order.{program_in_order}
+use Rattle.verse_tree.proofs.Order.{program_in_order, numbers_length}
 use Rattle.verse_rules_least.specs.Least.{each, InOrder, Told, Placed, Finds, first_true}
 use Rattle.verse_rules_least.specs.Both.{Leads}
 use Rattle.verse_rules_least.specs.declared.faults.Fault.{Fault}
@@ -37,20 +39,12 @@ module _ {C : Type 0} (part : ℕ × Place → C) where
       map (λ v. part (visit_stands v)) vs ≡ map (λ n. part (node_stands n)) ns
   parts_agree vs ns e = parts_visited vs ∙ ap (map part) e ∙ sym (parts_written ns)
 
-range_length : (n a : ℕ) → length (range_with_len n a) ≡ a
-range_length n zero = refl
-range_length n (suc a) = ap suc (range_length (n + 1) a)
-
-nodes_length : (ns : List Node) → length (numbers ns) ≡ length ns
-nodes_length [] = refl
-nodes_length (n ∷ ns) = ap suc (nodes_length ns)
-
 visits_length : (vs : List Visit) → length (map number_of vs) ≡ length vs
 visits_length [] = refl
 visits_length (v ∷ vs) = ap suc (visits_length vs)
 
 in_row : (vs : List Visit) (n : ℕ) → map number_of vs ≡ range_with_len 0 n → map number_of vs ≡ range_with_len 0 (length vs)
-in_row vs n e = e ∙ ap (range_with_len 0) (sym (sym (visits_length vs) ∙ ap length e ∙ range_length 0 n))
+in_row vs n e = e ∙ ap (range_with_len 0) (sym (sym (visits_length vs) ∙ ap length e ∙ length-range_with_len 0 n))
 
 finds : (v : Visit) (o : Option Fault) → Finds (Breaks v o) (first_true (rules_of v))
 finds v o = first_finds (rules_of v) refl
@@ -71,18 +65,14 @@ placed_there : (is : List ItemTree) (vs : List Visit) (o : Option Fault) →
 placed_there is vs None e r p = tt
 placed_there is vs (Some f) e r p = ap (λ l. slice_get l f.node) (sym e) ∙ stands_there number_of place_of vs f r p
 
-one_more : (ms : List Node) (n : Node) → length (ms ++ n ∷ []) ≡ length ms + 1
-one_more [] n = omega arith
-one_more (m ∷ ms) n = let h = one_more ms n in omega arith
-
 -- the number of the program's own node
 pub last_number : (is : List ItemTree) (n : ℕ) → IsNumbered is n → length (items_order is) + 1 ≡ n
 last_number is n h =
     sym (one_more (items_order is) _)
-    ∙ sym (nodes_length (program_order is))
+    ∙ sym (numbers_length (program_order is))
     ∙ ap (λ l. length (numbers (program_order l))) h.1
     ∙ ap length (program_in_order h.0)
-    ∙ range_length 0 (program_nodes h.0)
+    ∙ length-range_with_len 0 (program_nodes h.0)
     ∙ sym h.2
 
 -- what the code names, by what it knows and the number of the program's own node

@@ -1,3 +1,4 @@
 pub mod Adding
 pub mod Agreeing
 pub mod Answering
+mod Bare

@@ -6,7 +6,7 @@ use Rattle.verse_tree.specs.declared.tables.Ref.TheVariants as ref
 use Rattle.verse_names_declarations.specs.Names.{Table, look, keep, names}
 use Rattle.verse_names_declarations.specs.Words.{builtins}
 use Rattle.verse_names_declarations.specs.Known.{Known}
-use Rattle.verse_names_declarations.specs.Lines.{all_members}
+use Rattle.verse_names_declarations.specs.Lines.{Members, all_members}
 
 -- what is visible throughout a body
 pub record World : Type 0 where
@@ -24,8 +24,11 @@ with_methods c i [] t = t
 with_methods c i (x ∷ xs) t = with_methods c (i + 1) xs (keep x (ref.Method c i) t)
 
 -- the members of a class, which are visible by bare name in its methods
+abbrev pub bare_table : ℕ → Members → Table
+bare_table c m = with_methods c 0 (names m.methods) m.fields
+
 abbrev pub bare_members : Known → ℕ → Table
-bare_members k c = with_methods c 0 (names (all_members k c).methods) (all_members k c).fields
+bare_members k c = bare_table c (all_members k c)
 
 -- in a method of a class
 abbrev pub inside : Known → ℕ → World

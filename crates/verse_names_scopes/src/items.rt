@@ -1,6 +1,6 @@
 //! The walk over what a program defines.
 
-ghost use Rattle.std.specs.Prelude.{◌≡◌, map, OnOk};
+ghost use Rattle.std.specs.Prelude.{◌≡◌, map, IfOk, OnOk};
 ghost use Rattle.std.specs.Option.{option_map};
 ghost use Rattle.verse_tree.specs.View.{tree_of};
 ghost use Rattle.verse_tree.specs.ItemView.{param_of, fun_of, field_of, member_of, class_of};
@@ -8,6 +8,7 @@ ghost use Rattle.verse_tree.specs.ItemView.{item_of};
 ghost use Rattle.verse_tree.specs.PostOrder.{program_place};
 ghost use Rattle.verse_names_declarations.specs.Counting.{counted_of};
 ghost use Rattle.verse_names_declarations.specs.Known.{known_of};
+ghost use Rattle.verse_names_declarations.specs.Lines.{all_members, members_view};
 ghost use Rattle.verse_names_scopes.specs.Visible.{inside, outside};
 ghost use Rattle.verse_names_scopes.specs.Subjects.{quiet};
 ghost use Rattle.verse_names_scopes.specs.Scopes.{through_params, through_fun, through_default};
@@ -16,7 +17,6 @@ ghost use Rattle.verse_names_scopes.specs.Scopes.{through_item, through_items};
 ghost use Rattle.verse_names_scopes.specs.Naming.{noted, cut_back};
 ghost use Rattle.verse_names_scopes.specs.Views.{world_of, naming_of};
 
-use crate::members::bare_members;
 use crate::naming::{Naming, World};
 use crate::trees::walk;
 use crate::types::walk_type;
@@ -25,8 +25,8 @@ use std::alloc::Global;
 use verse_base::places::Place;
 use verse_base::refusals::Memory;
 use verse_names_declarations::counting::Counted;
-use verse_names_declarations::dictionaries::Dict;
 use verse_names_declarations::known::Known;
+use verse_names_declarations::members::{Members, all_members};
 use verse_tree::exprs::Expr;
 use verse_tree::items::{ClassItem, Field, Fun, Item, Member, Param};
 
@@ -137,6 +137,28 @@ fn walk_members<'a>(
     Ok(())
 }
 
+/// All members of a class, as its own.
+fn members_of<'a>(alloc: Global, known: &Known<'a>, class: u32) -> Result<Members<'a>, Memory>
+    ensures view { IfOk result (λ m. members_view m ≡ all_members (known_of known.now) class) }
+    ensures class { IfOk result (λ m. m.class ≡ class) }
+{
+    all_members(alloc, known, class)?.copy(class)
+}
+
+/// What is visible in the methods of a class.
+fn world_in<'w, 'a>(known: &'w Known<'a>, members: &'w Members<'a>, class: u32) -> World<'w, 'a>
+    requires view { members_view members.now ≡ all_members (known_of known.now) class }
+    requires class { members.now.class ≡ class }
+    ensures { world_of result ≡ inside (known_of known.now) class }
+{
+    World {
+        items: &known.index.items,
+        types: &known.index.types,
+        members: Some(members),
+        class: Some(class),
+    }
+}
+
 fn walk_class<'a>(
     alloc: Global,
     naming: &mut Naming<'a>,
@@ -150,13 +172,8 @@ fn walk_class<'a>(
         through_members noted cut_back (known_of known.now) (outside (known_of known.now))
         (inside (known_of known.now) number) (class_of item.now).members (naming_of naming.old)) }
 {
-    let members = bare_members(alloc, known, number)?;
-    let inner = World {
-        items: &known.index.items,
-        types: &known.index.types,
-        members: &members,
-        class: Some(number),
-    };
+    let members = members_of(alloc, known, number)?;
+    let inner = world_in(known, &members, number);
     walk_members(naming, known, world, &inner, item.members.as_slice())
 }
 
@@ -214,11 +231,10 @@ pub fn walk_program<'a>(
         (through_items noted cut_back (known_of known.now) (known_of known.now).items
         (naming_of naming.old))) }
 {
-    let none = Dict::new(alloc);
     let world = World {
         items: &known.index.items,
         types: &known.index.types,
-        members: &none,
+        members: None,
         class: None,
     };
     walk_items(alloc, naming, known, &world, &known.items)?;

@@ -3,7 +3,7 @@
 ghost use Rattle.std.specs.Prelude.{◌≡◌, ◌++◌, ◌∷◌, [], cond, map, length, OnOk, IfOk, Some, None};
 ghost use Rattle.std.specs.Prelude.{is_some};
 ghost use Rattle.verse_rules_least.specs.Least.{first, fault_at};
-ghost use Rattle.verse_names_declarations.specs.Names.{any_again};
+ghost use Rattle.verse_names_declarations.specs.Names.{any_again, look};
 ghost use Rattle.verse_names_declarations.specs.Views.{table_of};
 ghost use Rattle.verse_tree.specs.View.{given_of, givens};
 ghost use Rattle.verse_tree.specs.declared.tables.Ref.TheVariants as ref;
@@ -20,6 +20,7 @@ use verse_base::places::Place;
 use verse_base::refusals::Memory;
 use verse_base::rules::{NAME_DEFINED, NAME_UNKNOWN};
 use verse_names_declarations::dictionaries::{Calls, Dict};
+use verse_names_declarations::members::Members;
 use verse_names_declarations::words::builtin;
 use verse_rules_least::faults::{Fault, fault_for, keep_first};
 use verse_tree::exprs::Given;
@@ -32,7 +33,7 @@ pub struct World<'w, 'a> {
     /// The items that are classes or enums.
     pub types: &'w Dict<'a>,
     /// In a method, the members of its class and of its ancestors.
-    pub members: &'w Dict<'a>,
+    pub members: Option<&'w Members<'a>>,
     /// In a method, the class of `Self`.
     pub class: Option<u32>,
 }
@@ -42,13 +43,23 @@ impl<'w, 'a> World<'w, 'a> {
     fn find(&self, name: &[u8]) -> Option<Ref>
         ensures { result ≡ visible_throughout (world_of self.now) name.now }
     {
-        if let Some(to) = self.members.find(name) {
+        if let Some(to) = self.member(name) {
             return Some(to);
         }
         if let Some(to) = self.items.find(name) {
             return Some(to);
         }
         builtin(name)
+    }
+
+    #[tactic(auto, using(crate::proofs::Bare::bare_is))]
+    fn member(&self, name: &[u8]) -> Option<Ref>
+        ensures { result ≡ look name.now (world_of self.now).members }
+    {
+        match self.members {
+            None => None,
+            Some(members) => members.bare(name),
+        }
     }
 
     /// What `Self` refers to.

@@ -1,5 +1,6 @@
 -- One more member is read.
 use Rattle.std.proofs.Common.{◌≡◌, ℕ, ◌<◌, ◌≤◌, List, [], ◌∷◌, ◌++◌, length, map, ap, arith}
+use Rattle.verse_base.proofs.Facts.{map_last}
 use Rattle.verse_lex.specs.declared.tokens.Mark.TheVariants as m
 use Rattle.verse_layout.specs.declared.toks.TokKind.TheVariants as tok
 use Rattle.verse_layout.specs.declared.toks.Tok.{Tok}
@@ -13,14 +14,13 @@ use Rattle.verse_grammar.specs.Symbols as rules_of
 use Rattle.verse_grammar.specs.Reading.{EatsRule}
 use Rattle.verse_grammar.specs.Loops.{Goes}
 use Rattle.verse_grammar.proofs.GoingItems.{goes_params_tail_at, goes_members_tail_at}
-use Rattle.verse_parse_parts.proofs.Steps.{map_snoc}
 
 pub member_read : (b : List ℕ) (ks rest r1 r2 : List Tok) (s : Tok) (xs ys : List Member) (x : Member) →
     MemberRow b ks (map member_of xs) rest → rest ≡ s ∷ r1 → s.kind ≡ tok.Sep → grammar.Member b r1 (member_of x) r2 → ys ≡ xs ++ x ∷ [] →
     MemberRow b ks (map member_of ys) r2
 member_read b ks rest r1 r2 s xs ys x row e h one is =
     let t : MemberRow b ks (map member_of xs) (s ∷ r1) = rw (← e) row in
-    rw (is, map_snoc member_of xs x) (more_members t h one)
+    rw (is, map_last member_of xs x) (more_members t h one)
 
 pub member_goes : (ks rest r1 r2 : List Tok) (s : Tok) → Goes rules_of.members_tail ks rest → rest ≡ s ∷ r1 → s.kind ≡ tok.Sep →
     EatsRule rules_of.member r1 r2 → Goes rules_of.members_tail ks r2

@@ -1,5 +1,6 @@
 -- One more of a list is read.
-use Rattle.std.proofs.Common.{◌≡◌, ℕ, ◌≤◌, List, [], ◌∷◌, ◌++◌, length, map, refl, ap, arith}
+use Rattle.std.proofs.Common.{◌≡◌, ℕ, ◌≤◌, List, [], ◌∷◌, ◌++◌, length, map, ap, arith}
+use Rattle.verse_base.proofs.Facts.{map_last}
 use Rattle.verse_lex.specs.declared.tokens.Mark.TheVariants as m
 use Rattle.verse_layout.specs.declared.toks.Tok.{Tok}
 use Rattle.verse_tree.specs.ItemView.{spec_of}
@@ -10,18 +11,13 @@ use Rattle.verse_grammar.specs.Symbols as rules_of
 use Rattle.verse_grammar.specs.Loops.{Goes}
 use Rattle.verse_grammar.proofs.GoingItems.{goes_specs_at}
 
--- the view of a list with one more is that with the view of one more
-pub map_snoc : {A B : Type 0} (f : A → B) (xs : List A) (x : A) → map f (xs ++ x ∷ []) ≡ map f xs ++ f x ∷ []
-map_snoc f [] x = refl
-map_snoc f (y ∷ ys) x = rw (map_snoc f ys x) refl
-
 pub spec_read : (b : List ℕ) (ks rest r1 r2 r3 : List Tok) (o n c : Tok) (xs ys : List Spec) (x : Spec) (v : List ℕ) →
     Specs b ks (map spec_of xs) rest → rest ≡ o ∷ r1 → o.kind ≡ mark m.Below → r1 ≡ n ∷ r2 → n.kind ≡ name →
     r2 ≡ c ∷ r3 → c.kind ≡ mark m.Above → spec_of x ≡ record { place = n.place; name = v } → v ≡ name_at b n → ys ≡ xs ++ x ∷ [] →
     Specs b ks (map spec_of ys) r3
 spec_read b ks rest r1 r2 r3 o n c xs ys x v s e1 h1 e2 h2 e3 h3 made is e =
     let t : Specs b ks (map spec_of xs) (o ∷ n ∷ c ∷ r3) = rw (← e3) (rw (← e2) (rw (← e1) s)) in
-    rw (e, map_snoc spec_of xs x, made, is) (more_specs t h1 h2 h3)
+    rw (e, map_last spec_of xs x, made, is) (more_specs t h1 h2 h3)
 
 pub spec_goes : (ks rest r1 r2 r3 : List Tok) (o n c : Tok) → Goes rules_of.specs ks rest → rest ≡ o ∷ r1 → o.kind ≡ mark m.Below →
     r1 ≡ n ∷ r2 → n.kind ≡ name → r2 ≡ c ∷ r3 → c.kind ≡ mark m.Above → Goes rules_of.specs ks r3

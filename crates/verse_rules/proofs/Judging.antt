@@ -1,11 +1,12 @@
 -- The least of what the passes of types and of effects find is what a program is refused for.
-use Rattle.std.proofs.Common.{◌≡◌, ℕ, zero, suc, List, [], ◌∷◌, ◌++◌, map, Bool, true, false, cond, Option, refl, ap, sym, ◌∙◌, subst}
+use Rattle.std.proofs.Common.{◌≡◌, ℕ, List, [], ◌∷◌, ◌++◌, map, Bool, true, false, cond, Option, refl, ap, sym, ◌∙◌, subst}
 use Rattle.std.specs.Prelude.{Some, None, Err, slice_get, length}
 use Rattle.std.specs.Result.{IsErrOf}
 use Rattle.std.proofs.lemmas.List.{map-append}
 use Rattle.verse_base.specs.declared.places.Place.{Place}
 use Rattle.verse_base.specs.declared.refusals.Front.TheVariants as front
 use Rattle.verse_base.specs.declared.refusals.Refusal.{Refusal}
+use Rattle.verse_base.proofs.Facts.{get_first}
 use Rattle.verse_tree.specs.ItemTree.{ItemTree}
 use Rattle.verse_tree.specs.PostOrder.{items_order, node_at, program, program_place, program_order}
 use Rattle.verse_tree.specs.PostOrder as plain
@@ -32,11 +33,6 @@ with_refs k refs = record k { refs = refs }
 
 -- ---- the places of faults
 
-further : {A : Type 0} (xs ys : List A) (n : ℕ) (x : A) → slice_get xs n ≡ Some x → slice_get (xs ++ ys) n ≡ Some x
-further [] ys n x e = absurd (cc)
-further (a ∷ xs) ys zero x e = e
-further (a ∷ xs) ys (suc n) x e = further xs ys n x e
-
 abbrev its_place : plain.Node → Place
 its_place v = v.place
 
@@ -57,7 +53,7 @@ stands_in is n f h s =
     let there : slice_get (map its_place (items_order is)) f.node ≡ Some f.place =
     subst (λ (ps : List Place). slice_get ps f.node ≡ Some f.place) same own in
     subst (λ (ps : List Place). slice_get ps f.node ≡ Some f.place) (sym whole)
-    (further (map its_place (items_order is)) (map its_place last) f.node f.place there)
+    (get_first (map its_place (items_order is)) (map its_place last) f.node f.place there)
 
 placed : (is : List ItemTree) (n : ℕ) (o : Option Fault) → IsNumbered is n → Placed number_of place_of (items_nodes is) o → IsPlaced is o
 placed is n None h p = tt

@@ -31,7 +31,7 @@ made_pair k t = record { key = k; value = t }
 abbrev MapComes : MapOf → Type 0
 MapComes m = made_map (map_of m) ≡ m
 
-one_layer : (x : Ty-F Made MapOf) → ty_of (roll-Ty x) ≡ ty_step (map-Ty Made MapOf Ty (Ty × Ty) ty_of map_of x)
+pub one_layer : (x : Ty-F Made MapOf) → ty_of (roll-Ty x) ≡ ty_step (map-Ty Made MapOf Ty (Ty × Ty) ty_of map_of x)
 one_layer x = fold-roll-Ty Ty (Ty × Ty) ty_step two_tys x
 
 all_come : (ds : List ((d : Made) × Comes d)) → all_made (tys (map ty_of (map (λ e. e.0) ds))) ≡ map (λ e. e.0) ds

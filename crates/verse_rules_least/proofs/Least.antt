@@ -4,6 +4,7 @@ use Rattle.std.specs.Prelude.{Some, None, cond, nat_le, ◌&&◌}
 use Rattle.std.proofs.lemmas.Bool.Decides.{nat_tests}
 use mathlib.Core.Logic.{inl, inr}
 use Rattle.verse_base.specs.declared.places.Place.{Place}
+use Rattle.verse_base.proofs.Facts.{and_second}
 use Rattle.verse_rules_least.specs.declared.faults.Fault.{Fault}
 use Rattle.verse_rules_least.specs.Least.{each, fault_at, first, Above, InOrder, StandsAt, Placed, Reaches, Broken, here, later, Told}
 use Rattle.verse_rules_least.specs.Least.{Finds}
@@ -12,27 +13,20 @@ use Rattle.verse_rules_least.specs.Least.{first_true, Holds, this, other, ascend
 first_at : (n c : ℕ) (b : Bool) → (nat_le n c && b) ≡ true → n ≤ c
 first_at n c b e = grind (arith, nat_tests)
 
-rest_at : (a b : Bool) → (a && b) ≡ true → b ≡ true
-rest_at true b e = e
-rest_at false b e = absurd (no e)
-  where
-    no : false ≡ true → ⊥
-    no h = cc
-
 -- all codes of a table that ascends from n are n or above
 from_all : (n c : ℕ) (rs : List (ℕ × Bool)) → ascends_from n rs ≡ true → Holds rs c → n ≤ c
 from_all n c [] f h = elim h [ ]
 from_all n c (r ∷ rs) f this = first_at n c (ascends_from c rs) f
 from_all n c (r ∷ rs) f (other h) =
     let above : n ≤ r.0 = first_at n r.0 (ascends_from r.0 rs) f in
-    let behind : r.0 ≤ c = from_all r.0 c rs (rest_at (nat_le n r.0) (ascends_from r.0 rs) f) h in
+    let behind : r.0 ≤ c = from_all r.0 c rs (and_second (nat_le n r.0) (ascends_from r.0 rs) f) h in
     omega (arith, above, behind)
 
 -- the first line of a table that is true has the least code
 first_finds_from : (n : ℕ) (rs : List (ℕ × Bool)) → ascends_from n rs ≡ true → Finds (Holds rs) (first_true rs)
 first_finds_from n [] k = λ d h. elim h [ ]
-first_finds_from n (r ∷ rs) k = by r.0 r.1 rs (rest_at (nat_le n r.0) (ascends_from r.0 rs) k) (first_true rs)
-    (first_finds_from r.0 rs (rest_at (nat_le n r.0) (ascends_from r.0 rs) k))
+first_finds_from n (r ∷ rs) k = by r.0 r.1 rs (and_second (nat_le n r.0) (ascends_from r.0 rs) k) (first_true rs)
+    (first_finds_from r.0 rs (and_second (nat_le n r.0) (ascends_from r.0 rs) k))
   where
     by : (c : ℕ) (b : Bool) (rs : List (ℕ × Bool)) → ascends_from c rs ≡ true → (o : Option ℕ) → Finds (Holds rs) o →
         Finds (Holds ((c, b) ∷ rs)) (cond b (Some c) o)

@@ -1,8 +1,10 @@
 //! The tables of a program as text.
 
+use shared_list::SharedList;
 use verse_base::refusals::Memory;
 use verse_base::texts::natural;
 use verse_names_items::tables::Tables;
+use verse_tree::fields::FieldList;
 use verse_tree::tables::{ClassInfo, Effects, FieldInfo, FunInfo, MapOf, Ty};
 
 fn number(out: &mut Vec<u8>, letter: u8, number: u32) -> Result<(), Memory> {
@@ -97,19 +99,23 @@ fn write_field(out: &mut Vec<u8>, info: &FieldInfo) -> Result<(), Memory> {
     Ok(())
 }
 
-fn write_fields(out: &mut Vec<u8>, fields: &[FieldInfo]) -> Result<(), Memory> {
+fn write_fields(out: &mut Vec<u8>, fields: &FieldList) -> Result<(), Memory> {
     out.push(b'{')?;
-    'fields: for info in fields {
-        write_field(out, info)?;
+    'fields: for at in 0..fields.len() {
+        if let Some(info) = fields.get(at) {
+            write_field(out, info)?;
+        }
     }
     out.push(b'}')?;
     Ok(())
 }
 
-fn write_methods(out: &mut Vec<u8>, methods: &[u32]) -> Result<(), Memory> {
+fn write_methods(out: &mut Vec<u8>, methods: &SharedList<u32>) -> Result<(), Memory> {
     out.push(b'[')?;
-    'methods: for method in methods {
-        natural(*method as u64, out)?;
+    'methods: for at in 0..methods.len() {
+        if let Some(method) = methods.get(at) {
+            natural(*method as u64, out)?;
+        }
         out.push(b',')?;
     }
     out.push(b']')?;
@@ -122,8 +128,8 @@ fn write_class(out: &mut Vec<u8>, info: &ClassInfo) -> Result<(), Memory> {
         natural(parent as u64, out)?;
     }
     mark(out, b'u', info.is_unique)?;
-    write_fields(out, info.fields.as_slice())?;
-    write_methods(out, info.methods.as_slice())
+    write_fields(out, &info.fields)?;
+    write_methods(out, &info.methods)
 }
 
 /// The tables, each behind a `;`.

@@ -4,10 +4,10 @@ use Rattle.std.specs.Prelude.{Some, None}
 use Rattle.verse_rules_types.specs.Types.{Class}
 use Rattle.verse_rules_types.specs.Fitting.{first_above, parent_of}
 
-down : (n i : ℕ) → i < n → n - i ≡ suc (n - (i + 1))
+pub down : (n i : ℕ) → i < n → n - i ≡ suc (n - (i + 1))
 down n i h = omega arith
 
-none : (n i : ℕ) → n ≤ i → n - i ≡ zero
+pub none : (n i : ℕ) → n ≤ i → n - i ≡ zero
 none n i h = omega arith
 
 module _ (cs : List Class) (test : ℕ → Bool) where

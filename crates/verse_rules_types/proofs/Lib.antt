@@ -1,3 +1,4 @@
 mod Climbing
 mod Before
 mod RuleSets
+pub mod Levels

@@ -5,6 +5,7 @@
 //!
 //! Class 0 is a root, 1 and 2 inherit from 0, and 3 from 1. Class 2 is unique.
 
+use shared_list::SharedList;
 use sqlite_items::{Boxed, Items};
 use std::alloc::{AllocError, Global};
 use std::test::Fail;
@@ -12,23 +13,24 @@ use verse_base::refusals::Memory;
 use verse_rules_types::fitting::{does_fit, is_same};
 use verse_rules_types::joining::join_of;
 use verse_rules_types::kinds::{is_comparable, is_key, levels};
+use verse_tree::fields::FieldList;
 use verse_tree::tables::{ClassInfo, MapOf, Ty};
 
-fn class(alloc: Global, parent: Option<u32>, is_unique: bool) -> ClassInfo {
+fn class(parent: Option<u32>, is_unique: bool) -> ClassInfo {
     ClassInfo {
         parent,
         is_unique,
-        fields: Items::new(alloc),
-        methods: Items::new(alloc),
+        fields: FieldList::new(),
+        methods: SharedList::new(),
     }
 }
 
 fn classes(alloc: Global) -> Result<Vec<ClassInfo>, Memory> {
     let mut all = Vec::new(alloc);
-    all.push(class(alloc, None, false))?;
-    all.push(class(alloc, Some(0), false))?;
-    all.push(class(alloc, Some(0), true))?;
-    all.push(class(alloc, Some(1), false))?;
+    all.push(class(None, false))?;
+    all.push(class(Some(0), false))?;
+    all.push(class(Some(0), true))?;
+    all.push(class(Some(1), false))?;
     Ok(all)
 }
 

@@ -1,7 +1,9 @@
 -- But for what stands round them, the nodes are those in written post-order, and so their numbers rise.
-use Rattle.std.proofs.Common.{◌≡◌, ℕ, suc, zero, ◌+◌, List, [], ◌∷◌, ◌++◌, map, length, Option, refl, ap, sym, ◌∙◌}
+use Rattle.std.proofs.Common.{◌≡◌, ℕ, ◌+◌, List, [], ◌∷◌, ◌++◌, map, length, Option, refl, ap, sym, ◌∙◌}
 use Rattle.std.specs.Prelude.{Some, None}
 use Rattle.std.specs.List.{range_with_len}
+use Rattle.std.proofs.lemmas.List.{length-map}
+use Rattle.std.proofs.lemmas.List.FromFn.{length-range_with_len}
 use Rattle.verse_tree.specs.Tree.{Written, Writtens, no_writtens, more_writtens, Tree, tree, Shape, Trees, no_trees, more_trees, Holes}
 use Rattle.verse_tree.specs.Tree.{no_holes, more_holes, Pairs, no_pairs, more_pairs, Givens, no_givens, more_givens}
 use Rattle.verse_tree.specs.Tree as t
@@ -193,20 +195,13 @@ numbers_alone : (vs : List Node) → map number_of vs ≡ numbers (map alone vs)
 numbers_alone [] = refl
 numbers_alone (v ∷ vs) = ap (λ k. v.number ∷ k) (numbers_alone vs)
 
-map_length : {A B : Type 0} (f : A → B) (xs : List A) → length (map f xs) ≡ length xs
-map_length f [] = refl
-map_length f (x ∷ xs) = ap suc (map_length f xs)
-
-range_length : (n a : ℕ) → length (range_with_len n a) ≡ a
-range_length n zero = refl
-range_length n (suc a) = ap suc (range_length (n + 1) a)
-
 pub numbers_in_row : NumbersInRow
 numbers_in_row is h =
     let count = numbering.items_nodes h.0 in
     let all : map number_of (items_nodes is) ≡ range_with_len 0 count = numbers_alone (items_nodes is) ∙ ap numbers (items_alone is) ∙
     ap (λ k. numbers (items_order k)) h.1 ∙ items_in_order h.0 0 in
-    let long : length (items_nodes is) ≡ count = sym (map_length number_of (items_nodes is)) ∙ ap length all ∙ range_length 0 count in
+    let long : length (items_nodes is) ≡ count = sym (length-map (items_nodes is) number_of) ∙ ap length all ∙
+    length-range_with_len 0 count in
     all ∙ ap (range_with_len 0) (sym long)
 
 pub numbers_rise : NumbersRise

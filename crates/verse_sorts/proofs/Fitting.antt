@@ -1,8 +1,9 @@
 -- A value of a sort is of each sort that it fits, and stays so where more is there.
-use Rattle.std.proofs.Common.{ℕ, List, [], ◌∷◌, Option, refl, ◌∙◌}
+use Rattle.std.proofs.Common.{◌≡◌, ◌≢◌, ℕ, List, [], ◌∷◌, Option, refl, ◌∙◌}
 use Rattle.verse_value.specs.Val.{Val, Vals, Pairs}
 use Rattle.verse_sorts.specs.Sorts as s
-use Rattle.verse_sorts.specs.Sorts.{Sort, Sorts, Inherits, itself, above, Fits, FitAll, to_none, to_any, from_never, fits_unit, fits_nil}
+use Rattle.verse_sorts.specs.Sorts.{Sort, Sorts, IsKnown, Inherits, itself, above, Fits, FitAll, to_none, to_any, from_never, fits_unit}
+use Rattle.verse_sorts.specs.Sorts.{fits_nil}
 use Rattle.verse_sorts.specs.Sorts.{fits_int, fits_logic, fits_char, fits_span, nil_logic, nil_opt, int_span, unit_span, fits_enum}
 use Rattle.verse_sorts.specs.Sorts.{fits_obj, fits_var, fits_event, fits_task, fits_opt, fits_list, fits_map, fits_tuple, fit_none}
 use Rattle.verse_sorts.specs.Sorts.{fit_more}
@@ -13,15 +14,49 @@ use Rattle.verse_sorts.specs.Typing.{is_list, is_map, is_tuple, no_all, more_all
 use Rattle.verse_sorts.specs.Typing.{AllFit, are_no}
 use Rattle.verse_sorts.specs.Typing.{are_so, fit_no, fit_so}
 
+-- all but none are known
+pub known_sort : (a : Sort) → a ≢ s.none → IsKnown a
+known_sort s.none h = elim (h refl) [ ]
+known_sort a h = tt
+
 module _ (up : ℕ → Option ℕ) where
   pub inherits_on : {c d e : ℕ} → Inherits up c d → Inherits up d e → Inherits up c e
   inherits_on itself b = b
   inherits_on (above h a) b = above h (inherits_on a b)
 
+  -- of what fits a sort that is known, the sort is known
+  pub known_below : {a b : Sort} → Fits up a b → IsKnown b → IsKnown a
+  known_below to_none k = elim k [ ]
+  known_below (to_any h) k = h
+  known_below from_never k = tt
+  known_below fits_unit k = tt
+  known_below fits_nil k = tt
+  known_below fits_int k = tt
+  known_below fits_logic k = tt
+  known_below fits_char k = tt
+  known_below fits_span k = tt
+  known_below nil_logic k = tt
+  known_below nil_opt k = tt
+  known_below int_span k = tt
+  known_below unit_span k = tt
+  known_below fits_enum k = tt
+  known_below (fits_obj f) k = tt
+  known_below fits_var k = tt
+  known_below fits_event k = tt
+  known_below (fits_task f) k = tt
+  known_below (fits_opt f) k = tt
+  known_below (fits_list f) k = tt
+  known_below (fits_map f g) k = tt
+  known_below (fits_tuple f) k = tt
+
+  pub none_alone : {a : Sort} → Fits up s.none a → a ≡ s.none
+  none_alone to_none = refl
+  none_alone (to_any k) = elim k [ ]
+
   mutual
     pub fits_on : {a b c : Sort} → Fits up a b → Fits up b c → Fits up a c
     fits_on f to_none = to_none
-    fits_on f to_any = to_any
+    fits_on f (to_any k) = to_any (known_below f k)
     fits_on from_never g = from_never
     fits_on fits_unit g = g
     fits_on fits_nil g = g
@@ -50,7 +85,7 @@ module _ (up : ℕ → Option ℕ) where
   mutual
     pub is_up : {t : Typing} {v : Val} {a b : Sort} → Is up t v a → Fits up a b → Is up t v b
     is_up i to_none = is_none
-    is_up i to_any = is_any
+    is_up i (to_any k) = is_any
     is_up i from_never = elim i [ ]
     is_up i fits_unit = i
     is_up i fits_nil = i
@@ -132,7 +167,7 @@ module _ (up : ℕ → Option ℕ) where
   mutual
     pub fits_itself : (a : Sort) → Fits up a a
     fits_itself s.none = to_none
-    fits_itself s.any = to_any
+    fits_itself s.any = to_any tt
     fits_itself s.never = from_never
     fits_itself s.unit = fits_unit
     fits_itself s.nil = fits_nil

@@ -17,6 +17,12 @@ mutual
     no_sorts : Sorts
     more_sorts : Sort → Sorts → Sorts
 
+-- not that of a local of which nothing is known
+abbrev pub IsKnown : Sort → Type 0
+IsKnown none = ⊥
+IsKnown s = Unit {0}
+
+-- each sort fits itself and none; all but none fit any
 module _ (up : ℕ → Option ℕ) where
   pub data Inherits : ℕ → ℕ → Type 0 where
     itself : {c : ℕ} → Inherits c c
@@ -25,7 +31,7 @@ module _ (up : ℕ → Option ℕ) where
   mutual
     pub data Fits : Sort → Sort → Type 0 where
       to_none : {s : Sort} → Fits s none
-      to_any : {s : Sort} → Fits s any
+      to_any : {s : Sort} → IsKnown s → Fits s any
       from_never : {s : Sort} → Fits never s
       fits_unit : Fits unit unit
       fits_nil : Fits nil nil

@@ -1,24 +1,17 @@
 -- A type that fits another one has a sort that fits the other's.
-use Rattle.std.proofs.Common.{◌≡◌, ℕ, zero, suc, Bool, true, false, cond, ◌&&◌, nat_eq, List, Option, Some, None, refl, sym}
+use Rattle.std.proofs.Common.{◌≡◌, ℕ, zero, suc, Bool, true, false, cond, nat_eq, List, Option, Some, None, refl, sym}
 use Rattle.std.proofs.Common.{subst, ap}
 use Rattle.std.specs.Prelude.{length, is_some}
 use Rattle.std.proofs.lemmas.Bool.{eqb-true}
+use Rattle.verse_base.proofs.Facts.{and_first, and_second}
 use Rattle.verse_rules_types.specs.Types as t
 use Rattle.verse_rules_types.specs.Types.{Ty, Tys, Class}
 use Rattle.verse_rules_types.specs.Fitting.{fits, all_fit, is_same, all_same, first_above, above, parent_of, alone_fits}
 use Rattle.verse_sorts.specs.Sorts as s
-use Rattle.verse_sorts.specs.Sorts.{Inherits, itself, Fits, FitAll, to_any, from_never, fits_nil}
+use Rattle.verse_sorts.specs.Sorts.{IsKnown, Inherits, itself, Fits, FitAll, to_any, from_never, fits_nil}
 use Rattle.verse_sorts.specs.Sorts.{fits_int, fits_logic, fits_char, nil_logic, nil_opt, fits_enum}
 use Rattle.verse_sorts.specs.Sorts.{fits_obj, fits_event, fits_task, fits_opt, fits_list, fits_map, fits_tuple, fit_none, fit_more}
 use Rattle.verse_sorts_types.specs.SortOf.{sort_of, sorts_of}
-
-and_left : (a b : Bool) → (a && b) ≡ true → a ≡ true
-and_left true b h = refl
-and_left false b h = cc
-
-and_right : (a b : Bool) → (a && b) ≡ true → b ≡ true
-and_right true b h = h
-and_right false b h = cc
 
 same_number : (a b : ℕ) → nat_eq a b ≡ true → a ≡ b
 same_number a b h = eqb-true a b h
@@ -59,14 +52,31 @@ mutual
   same (t.array a) (t.array b) h = ap t.array (same a b h)
   same (t.task a) (t.task b) h = ap t.task (same a b h)
   same (t.event a) (t.event b) h = ap t.event (same a b h)
-  same (t.mapping k a) (t.mapping l b) h = both_same k l a b (same k l (and_left _ _ h)) (same a b (and_right _ _ h))
+  same (t.mapping k a) (t.mapping l b) h = both_same k l a b (same k l (and_first _ _ h)) (same a b (and_second _ _ h))
   same (t.tuple a) (t.tuple b) h = ap t.tuple (each_same a b h)
   same a b h = cc
 
   each_same : (a b : Tys) → all_same a b ≡ true → a ≡ b
   each_same t.no_tys t.no_tys h = refl
-  each_same (t.more_tys a as1) (t.more_tys b bs) h = more_same a b as1 bs (same a b (and_left _ _ h)) (each_same as1 bs (and_right _ _ h))
+  each_same (t.more_tys a as1) (t.more_tys b bs) h = more_same a b as1 bs (same a b (and_first _ _ h)) (each_same as1 bs (and_second _ _ h))
   each_same a b h = cc
+
+-- no sort of a type is that of a local of which nothing is known
+pub sort_known : (a : Ty) → IsKnown (sort_of a)
+sort_known t.never = tt
+sort_known t.nil = tt
+sort_known t.void = tt
+sort_known t.int = tt
+sort_known t.logic = tt
+sort_known t.char = tt
+sort_known (t.enum e) = tt
+sort_known (t.class c) = tt
+sort_known (t.option a) = tt
+sort_known (t.array a) = tt
+sort_known (t.task a) = tt
+sort_known (t.event a) = tt
+sort_known (t.mapping k a) = tt
+sort_known (t.tuple as1) = tt
 
 module _ (cs : List Class) where
   -- what is the same fits
@@ -75,7 +85,7 @@ module _ (cs : List Class) where
 
   alone_sort : (a b : Ty) → Fits (parent_of cs) (sort_of a) (sort_of a) → alone_fits a b ≡ true →
       Fits (parent_of cs) (sort_of a) (sort_of b)
-  alone_sort a t.void f h = to_any
+  alone_sort a t.void f h = to_any (sort_known a)
   alone_sort a b f h = itself_fits a b f h
 
   mutual
@@ -84,28 +94,28 @@ module _ (cs : List Class) where
     fits_sort t.nil t.nil h = fits_nil
     fits_sort t.nil t.logic h = nil_logic
     fits_sort t.nil (t.option b) h = nil_opt
-    fits_sort t.nil t.void h = to_any
-    fits_sort t.void b h = alone_sort t.void b to_any h
+    fits_sort t.nil t.void h = to_any tt
+    fits_sort t.void b h = alone_sort t.void b (to_any tt) h
     fits_sort t.int b h = alone_sort t.int b fits_int h
     fits_sort t.logic b h = alone_sort t.logic b fits_logic h
     fits_sort t.char b h = alone_sort t.char b fits_char h
     fits_sort (t.enum e) b h = alone_sort (t.enum e) b fits_enum h
     fits_sort (t.event a) b h = alone_sort (t.event a) b fits_event h
     fits_sort (t.class c) (t.class d) h = fits_obj (climb cs (length cs) c d h)
-    fits_sort (t.class c) t.void h = to_any
+    fits_sort (t.class c) t.void h = to_any tt
     fits_sort (t.option a) (t.option b) h = fits_opt (fits_sort a b h)
-    fits_sort (t.option a) t.void h = to_any
+    fits_sort (t.option a) t.void h = to_any tt
     fits_sort (t.array a) (t.array b) h = fits_list (fits_sort a b h)
-    fits_sort (t.array a) t.void h = to_any
+    fits_sort (t.array a) t.void h = to_any tt
     fits_sort (t.task a) (t.task b) h = fits_task (fits_sort a b h)
-    fits_sort (t.task a) t.void h = to_any
-    fits_sort (t.mapping k a) (t.mapping l b) h = fits_map (fits_sort k l (and_left _ _ h)) (fits_sort a b (and_right _ _ h))
-    fits_sort (t.mapping k a) t.void h = to_any
+    fits_sort (t.task a) t.void h = to_any tt
+    fits_sort (t.mapping k a) (t.mapping l b) h = fits_map (fits_sort k l (and_first _ _ h)) (fits_sort a b (and_second _ _ h))
+    fits_sort (t.mapping k a) t.void h = to_any tt
     fits_sort (t.tuple a) (t.tuple b) h = fits_tuple (each_sort a b h)
-    fits_sort (t.tuple a) t.void h = to_any
+    fits_sort (t.tuple a) t.void h = to_any tt
     fits_sort a b h = cc
 
     each_sort : (a b : Tys) → all_fit cs a b ≡ true → FitAll (parent_of cs) (sorts_of a) (sorts_of b)
     each_sort t.no_tys t.no_tys h = fit_none
-    each_sort (t.more_tys a as1) (t.more_tys b bs) h = fit_more (fits_sort a b (and_left _ _ h)) (each_sort as1 bs (and_right _ _ h))
+    each_sort (t.more_tys a as1) (t.more_tys b bs) h = fit_more (fits_sort a b (and_first _ _ h)) (each_sort as1 bs (and_second _ _ h))
     each_sort a b h = cc

@@ -2,6 +2,7 @@
 use Rattle.std.proofs.Common.{◌≡◌, ℕ, zero, suc, Bool, true, false, cond, List, Option, Some, None, refl}
 use Rattle.std.proofs.Common.{subst}
 use Rattle.std.specs.Prelude.{length}
+use Rattle.std.proofs.lemmas.Option.{same_Some}
 use Rattle.verse_rules_types.specs.Types as t
 use Rattle.verse_rules_types.specs.Types.{Ty, Tys, Class}
 use Rattle.verse_rules_types.specs.Fitting.{fits, inherits, first_above, above, parent_of, class_or_void, common, pick, tuple_or_void}
@@ -12,17 +13,14 @@ use Rattle.verse_sorts.specs.Sorts.{Inherits, itself, Fits, FitAll, to_any, from
 use Rattle.verse_sorts.specs.Sorts.{fits_int, fits_logic, fits_char, fits_enum}
 use Rattle.verse_sorts.specs.Sorts.{fits_obj, fits_event, fits_task, fits_opt, fits_list, fits_map, fits_tuple, fit_none, fit_more}
 use Rattle.verse_sorts_types.specs.SortOf.{sort_of, sorts_of}
-use Rattle.verse_sorts_types.proofs.Fitting.{fits_sort, climb}
-
-some_same : (c e : ℕ) → Some c ≡ Some e → c ≡ e
-some_same c e h = cc
+use Rattle.verse_sorts_types.proofs.Fitting.{sort_known, fits_sort, climb}
 
 module _ (cs : List Class) where
   mutual
     pub sort_itself : (a : Ty) → Fits (parent_of cs) (sort_of a) (sort_of a)
     sort_itself t.never = from_never
     sort_itself t.nil = fits_nil
-    sort_itself t.void = to_any
+    sort_itself t.void = to_any tt
     sort_itself t.int = fits_int
     sort_itself t.logic = fits_logic
     sort_itself t.char = fits_char
@@ -49,7 +47,7 @@ module _ (cs : List Class) where
   found_from : (test : ℕ → Bool) (n c e : ℕ) (b : Bool) → test c ≡ b → ((q : ℕ) → first_above cs test n q ≡ Some e →
       Inherits (parent_of cs) q e × (test e ≡ true)) → cond b (Some c) (above (parent_of cs c) (first_above cs test n)) ≡ Some e →
       Inherits (parent_of cs) c e × (test e ≡ true)
-  found_from test n c e true h f g = subst (λ x. Inherits (parent_of cs) c x × (test x ≡ true)) (some_same c e g) (itself, h)
+  found_from test n c e true h f g = subst (λ x. Inherits (parent_of cs) c x × (test x ≡ true)) (same_Some c e g) (itself, h)
   found_from test n c e false h f g = found_over test n c e (parent_of cs c) refl f g
 
   found : (test : ℕ → Bool) (n c e : ℕ) → first_above cs test n c ≡ Some e → Inherits (parent_of cs) c e × (test e ≡ true)
@@ -58,7 +56,7 @@ module _ (cs : List Class) where
 
   common_over : (c d : ℕ) (p : Option ℕ) → common cs c d ≡ p → Fits (parent_of cs) (s.obj c) (sort_of (class_or_void p)) ×
       Fits (parent_of cs) (s.obj d) (sort_of (class_or_void p))
-  common_over c d None h = (to_any, to_any)
+  common_over c d None h = (to_any tt, to_any tt)
   common_over c d (Some e) h = (
     fits_obj (found (inherits cs d) (length cs) c e h).0,
     fits_obj (climb cs (length cs) d e (found (inherits cs d)
@@ -86,7 +84,7 @@ module _ (cs : List Class) where
   more_both a b c as1 bs (Some cs1) f g = (fit_more f.0 g.0, fit_more f.1 g.1)
 
   tuple_both : (as1 bs : Tys) (cs1 : Option Tys) → BothAll as1 bs cs1 → Both (t.tuple as1) (t.tuple bs) (tuple_or_void cs1)
-  tuple_both as1 bs None f = (to_any, to_any)
+  tuple_both as1 bs None f = (to_any tt, to_any tt)
   tuple_both as1 bs (Some cs1) f = (fits_tuple f.0, fits_tuple f.1)
 
   mutual
@@ -99,7 +97,7 @@ module _ (cs : List Class) where
         let f = pick_both k l (joined cs k l) (joined_both k l) in let g = pick_both a b (joined cs a b) (joined_both a b) in
         (fits_map f.0 g.0, fits_map f.1 g.1)
     joined_both (t.tuple as1) (t.tuple bs) = tuple_both as1 bs (all_joined cs as1 bs) (each_both as1 bs)
-    joined_both a b = (to_any, to_any)
+    joined_both a b = (to_any (sort_known a), to_any (sort_known b))
 
     each_both : (as1 bs : Tys) → BothAll as1 bs (all_joined cs as1 bs)
     each_both t.no_tys t.no_tys = (fit_none, fit_none)

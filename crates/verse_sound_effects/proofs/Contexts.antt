@@ -60,7 +60,7 @@ contexts_end leave undo cancel p h count fuel t a xs e w n pl see kept = record 
   first_domain = λ cs b i. attempt_ends p h.found (turns count) w _ _ _ (keep cs e) (comes xs e
       (trees.Shape.for_form cs b) i see);
   filters = λ c cs b e1 i see1. attempt_ends p h.found (turns count) w _ _ _ (keep cs e1)
-      (comes (seen_behind c xs) e1 (trees.Shape.for_form cs b) (i.0.1, i.1, i.2) see1);
+      (comes (seen_behind c xs) e1 (trees.Shape.for_form cs b) (i.0.1, i.1, i.2, i.3, i.4) see1);
 }
   where
     keep : (cs : Trees) (e : Env) → Keeps false w (clauses p (deeper p fuel) cs false e unit w)

@@ -7,7 +7,7 @@ use Rattle.verse_value.specs.Val.{Val}
 use Rattle.verse_value.specs.Answer as answer
 use Rattle.verse_value.specs.Answer.{Answer}
 use Rattle.verse_value.specs.Store.{Store}
-use Rattle.verse_meaning_state.specs.State.{State, Clock, stepped}
+use Rattle.verse_meaning_state.specs.State.{Clock, stepped}
 use Rattle.verse_meaning_state.specs.Effects.{added}
 use Rattle.verse_meaning.specs.Programs.{Program, fun_at}
 use Rattle.verse_meaning.specs.Residuals.{Env, Residual, Binder, no_name, a_constant, a_variable, Scopes, none, body}
@@ -20,6 +20,7 @@ use Rattle.verse_meaning.specs.Evaluating.{inner, inner_shape}
 use Rattle.verse_meaning.specs.Evaluating.{clauses, scope_end, cancel_behind}
 use Rattle.verse_meaning.specs.Runs.{deeper, with_params, with_this}
 use Rattle.verse_meaning.specs.Laws.{Calm, Leaves, Keeps, ContextLeaves}
+use Rattle.verse_meaning.proofs.Keeping.{stepped_calm}
 
 calm_then : {a b c : Clock} → Calm a b → Calm b c → Calm a c
 calm_then x y = record {
@@ -31,9 +32,6 @@ calm_then x y = record {
 
 calm_same : {a : Clock} → Calm a a
 calm_same = record { now = refl; next = refl; results = refl; signals = refl }
-
-calm_spent : (n : ℕ) (s : State) → Calm s.clock (stepped n s).clock
-calm_spent n s = record { now = refl; next = refl; results = refl; signals = refl }
 
 pub leaves_same : (w : World) → Leaves false w w
 leaves_same w = (refl, (refl, calm_same))
@@ -63,7 +61,7 @@ spends_keeps : (left : ℕ) (w : World) (go : World → Outcome) → ((u : World
     Keeps false w (spends left w go)
 unfolding spends
 spends_keeps zero w go f = tt
-spends_keeps (suc n) w go f = f (with_state w (stepped n w.state)) (refl, (refl, calm_spent n w.state))
+spends_keeps (suc n) w go f = f (with_state w (stepped n w.state)) (refl, (refl, stepped_calm n w.state))
 
 known_keeps : {A : Type 0} (w : World) (x : Option A) (go : A → Outcome) → ((x : A) → Keeps false w (go x)) →
     Keeps false w (if_known x w go)

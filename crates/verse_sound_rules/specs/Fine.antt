@@ -8,9 +8,10 @@ use Rattle.verse_tree.specs.Tree as t
 use Rattle.verse_tree.specs.declared.exprs.Operator.TheVariants as op
 use Rattle.verse_tree.specs.declared.tables.Ref.TheVariants as ref
 use Rattle.verse_value.specs.Val.{Val, enum}
+use Rattle.verse_value.specs.declared.modes.Mode.{Mode}
 use Rattle.verse_names_declarations.specs.Names.{Table}
 use Rattle.verse_sorts.specs.Sorts as s
-use Rattle.verse_sorts.specs.Sorts.{Sort, Fits}
+use Rattle.verse_sorts.specs.Sorts.{Sort, Fits, IsKey}
 use Rattle.verse_meaning.specs.Programs.{Program, ref_at, pieces, given_names}
 use Rattle.verse_meaning.specs.Residuals as form
 use Rattle.verse_meaning.specs.Residuals.{Form, Binder, no_name, a_constant, a_variable, Generator}
@@ -21,8 +22,8 @@ use Rattle.verse_meaning.specs.Evaluating.{Statement, plain, defines, defers, ge
 use Rattle.verse_meaning.specs.Evaluating.{statement_of, member_form, enum_member}
 use Rattle.verse_meaning.specs.Evaluating.{class_ref, base_of, mode_of, number_of}
 use Rattle.verse_sound_rules.specs.Found.{Found, Allowed, tried, armed, deferred, looped, New}
-use Rattle.verse_sorts_values.specs.Operands.{sorts}
-use Rattle.verse_sound_rules.specs.Forms.{NameIs, Gives}
+use Rattle.verse_sorts_values.specs.Operands.{sorts, Writes}
+use Rattle.verse_sound_rules.specs.Forms.{NameIs, Placed, Gives}
 
 -- the names that are visible behind a statement, and behind several
 abbrev pub defined_behind : Binder → ℕ → Table → Table
@@ -75,6 +76,12 @@ on_statement (generates g) as_plain by_binder by_block by_generator = by_generat
 abbrev pub on_member : Option Val → (Val → Type 0) → Type 0 → Type 0
 on_member (Some v) by_value by_object = by_value v
 on_member None by_value by_object = by_object
+
+-- two or more
+abbrev pub Several : Trees → Type 0
+Several no_trees = ⊥
+Several (more_trees b no_trees) = ⊥
+Several (more_trees b (more_trees d ts)) = Unit {0}
 
 module _ (p : Program) (f : Found) where
   abbrev pub sort_at : Tree → Sort
@@ -141,6 +148,41 @@ module _ (p : Program) (f : Found) where
     arm_fits : {subject q r : Sort} → Fits f.up q r → ArmFits subject q r
     no_subject : {q r : Sort} → ArmFits s.never q r
 
+  -- indices of these sorts lead from a value of the first sort to one of the last: one that is an
+  -- int or fits the keys, or any where there is no value
+  pub data Reaches : (whole : Sort) → (indices : List Sort) → (part : Sort) → Type 0 where
+    reaches_element : {q i : Sort} → Fits f.up i s.int → Reaches (s.list q) (i ∷ []) q
+    reaches_value : {k q i : Sort} → IsKey k → Fits f.up i k → Reaches (s.map k q) (i ∷ []) q
+    reaches_nothing : {is : List Sort} → Reaches s.never is s.never
+
+  -- what `set` writes to: a name or a member is of the sort of what it stands for, and an index,
+  -- whose failure is taken, of that of what it leads to
+  abbrev mutual
+    pub Settled : Allowed → Table → Tree → Type 0
+    Settled a xs (tree n pl x) = SettledAt a xs n pl x
+
+    pub SettledAt : Allowed → Table → ℕ → Place → Shape → Type 0
+    SettledAt a xs n pl (t.Shape.index b ts) = Settled a xs b ×
+        Reaches (sort_at b) (sorts_at ts) (f.sort n) × (a.fails ≡ true)
+    SettledAt a xs n pl x = Placed p f a xs (base_of p (tree n pl x)) (target_sorts_of x) (f.sort n)
+
+  -- a value of the first sort is written where one of the second stands, and what that gives is of
+  -- the third; or there is no value
+  pub data Stores (m : Mode) : (value place wanted : Sort) → Type 0 where
+    stores_value : {q r w : Sort} (taken given : Sort) → Fits f.up q taken →
+        Writes f.up m taken r given → Fits f.up given w → Stores m q r w
+    stores_nothing : {r w : Sort} → Stores m s.never r w
+
+  -- the keys and the values of pairs
+  abbrev pub PairsFit : (key value : Sort) → t.Pairs → Type 0
+  PairsFit k q t.Pairs.no_pairs = Unit {0}
+  PairsFit k q (t.Pairs.more_pairs b d ps) = Fits f.up (sort_at b) k × Fits f.up (sort_at d) q ×
+      PairsFit k q ps
+
+  -- the sort of a map that takes these pairs
+  pub data IsMap : Sort → t.Pairs → Type 0 where
+    is_map : {k q : Sort} {ps : t.Pairs} → IsKey k → PairsFit k q ps → IsMap (s.map k q) ps
+
   pub record TakesFrom (domain element : Sort) : Type 0 where
     pub whole : Sort
     pub each : Sort
@@ -181,7 +223,8 @@ module _ (p : Program) (f : Found) where
         Gives p f a xs form.defining (sort_at b ∷ []) (f.sort n)
     FineShape a xs n pl (t.Shape.variable x w b) = Fine a xs b ×
         Gives p f a xs (form.varying pl) (sort_at b ∷ []) (f.sort n)
-    FineShape a xs n pl (t.Shape.assignment m b d) = FineTarget a xs b × Fine a xs d ×
+    FineShape a xs n pl (t.Shape.assignment m b d) = (FineTarget a xs b × Settled a xs b ×
+        Stores (mode_of m) (sort_at d) (sort_at b) (f.sort n)) × Fine a xs d ×
         Gives p f a xs (form.storing (base_of p b) (mode_of m) pl)
         (target_sorts b ++ sort_at d ∷ []) (f.sort n)
     FineShape a xs n pl (t.Shape.returned b) = Fine a xs b ×
@@ -204,9 +247,11 @@ module _ (p : Program) (f : Found) where
     FineShape a xs n pl (t.Shape.chained op.Or b d) = Fine (tried a) xs b × Fine a xs d ×
         Fits f.up (sort_at b) (f.sort n) × Fits f.up (sort_at d) (f.sort n)
     FineShape a xs n pl (t.Shape.for_form ts b) = FineClauses (tried a) xs ts ×
-        Fine a (seen_after ts xs) b × Fits f.up (s.list (sort_at b)) (f.sort n)
+        Fine a (seen_after ts xs) b × (q : Sort) × (f.sort n ≡ s.list q) × Fits f.up (sort_at b) q
     -- operators
     FineShape a xs n pl (t.Shape.chained op.Div b d) = ⊥
+    FineShape a xs n pl (t.Shape.chained op.And b d) = Fine a xs b × Fine a xs d ×
+        Fits f.up (sort_at d) (f.sort n)
     FineShape a xs n pl (t.Shape.chained o b d) = Fine a xs b × Fine a xs d ×
         Gives p f a xs (form.computing o (p.is_array n) pl) (sort_at b ∷ sort_at d ∷ []) (f.sort n)
     FineShape a xs n pl (t.Shape.compared o b d) = Fine a xs b × Fine a xs d ×
@@ -229,7 +274,7 @@ module _ (p : Program) (f : Found) where
         (λ x. FineTrees a xs ts × Gives p f a xs x (sorts_at ts) (f.sort n))
         (λ x. FineObject a xs b × FineTrees a xs ts ×
         Gives p f a xs x (object_sort b ∷ sorts_at ts) (f.sort n))
-        (λ x. Fine a xs b × FineTrees a xs ts ×
+        (λ x. (Fine a xs b × Reaches (sort_at b) (sorts_at ts) (f.sort n)) × FineTrees a xs ts ×
         Gives p f a xs x (sort_at b ∷ sorts_at ts) (f.sort n)) (λ x. FineQuotient a xs n x ts)
     -- literals and names
     FineShape a xs n pl (t.Shape.integer z) = Fits f.up s.int (f.sort n)
@@ -247,7 +292,7 @@ module _ (p : Program) (f : Found) where
         Gives p f a xs (form.making_tuple pl) (sorts_at ts) (f.sort n)
     FineShape a xs n pl (t.Shape.array ts) = FineTrees a xs ts ×
         Gives p f a xs (form.making_array pl) (sorts_at ts) (f.sort n)
-    FineShape a xs n pl (t.Shape.mapping ps) = FinePairs a xs ps ×
+    FineShape a xs n pl (t.Shape.mapping ps) = (FinePairs a xs ps × IsMap (f.sort n) ps) ×
         Gives p f a xs (form.making_map pl) (pair_sorts ps) (f.sort n)
     FineShape a xs n pl (t.Shape.instance x gs) = (c : ℕ) × (class_ref p (ref_at p n) ≡ Some c) ×
         FineGivens a xs gs × Gives p f a xs (form.instancing c (given_names gs) pl) (given_sorts gs)
@@ -262,10 +307,12 @@ module _ (p : Program) (f : Found) where
     -- tasks
     FineShape a xs n pl (t.Shape.branch b) = (a.waits ≡ true) × Fine (armed a) xs b ×
         Fits f.up s.unit (f.sort n)
-    FineShape a xs n pl (t.Shape.sync ts) = (a.waits ≡ true) × FineTrees (armed a) xs ts ×
-        Fits f.up (s.tuple (sorts (sorts_at ts))) (f.sort n)
-    FineShape a xs n pl (t.Shape.race ts) = (a.waits ≡ true) × FineEach (armed a) xs (f.sort n) ts
-    FineShape a xs n pl (t.Shape.rush ts) = (a.waits ≡ true) × FineEach (armed a) xs (f.sort n) ts
+    FineShape a xs n pl (t.Shape.sync ts) = ((a.waits ≡ true) × Several ts) ×
+        FineTrees (armed a) xs ts × Fits f.up (s.tuple (sorts (sorts_at ts))) (f.sort n)
+    FineShape a xs n pl (t.Shape.race ts) = ((a.waits ≡ true) × Several ts) ×
+        FineEach (armed a) xs (f.sort n) ts
+    FineShape a xs n pl (t.Shape.rush ts) = ((a.waits ≡ true) × Several ts) ×
+        FineEach (armed a) xs (f.sort n) ts
     FineShape a xs n pl (t.Shape.spawn b) = FineSpawned a xs n b
     FineShape a xs n pl (t.Shape.sleep d) = (a.waits ≡ true) × Fits f.up s.unit (f.sort n)
     FineShape a xs n pl t.Shape.sleep_forever = (a.waits ≡ true) × Fits f.up s.unit (f.sort n)

@@ -4,7 +4,8 @@ use Rattle.verse_tree.specs.Tree.{Bytes}
 use Rattle.verse_names_declarations.specs.Names.{Table, look}
 use Rattle.verse_meaning.specs.Programs.{same_name}
 use Rattle.verse_meaning.specs.Forms.{this_name}
-use Rattle.verse_sorts.specs.Sorts.{Sort}
+use Rattle.verse_sorts.specs.Sorts.{Sort, IsKnown}
+use Rattle.verse_sorts.specs.Typing.{at}
 
 -- a function or a method
 pub record Signature : Type 0 where
@@ -30,6 +31,14 @@ pub record Found : Type 0 where
   pub slots : ℕ → List Sort
   -- by the number of a function
   pub signature : ℕ → Signature
+
+-- each sort that is found is known
+pub record AllKnown (f : Found) : Type 0 where
+  pub sort : (n : ℕ) → IsKnown (f.sort n)
+  pub key : (n : ℕ) → IsKnown (f.key n)
+  pub slots : (c i : ℕ) (q : Sort) → at (f.slots c) i ≡ Some q → IsKnown q
+  pub params : (g i : ℕ) (q : Sort) → at (f.signature g).params i ≡ Some q → IsKnown q
+  pub result : (g : ℕ) → IsKnown (f.signature g).result
 
 -- what may happen at a node, by what stands round it
 pub record Allowed : Type 0 where

@@ -8,7 +8,7 @@ use Rattle.verse_sorts.specs.Sorts as s
 use Rattle.verse_sorts.specs.Sorts.{Sort, Fits, Inherits}
 use Rattle.verse_sorts.specs.Typing.{at}
 use Rattle.verse_meaning.specs.Programs.{Program, fun_at, method_at, main_in}
-use Rattle.verse_sound_rules.specs.Found.{Found, in_function, in_default, New}
+use Rattle.verse_sound_rules.specs.Found.{Found, AllKnown, in_function, in_default, New}
 use Rattle.verse_sound_rules.specs.Forms.{IsDefault}
 use Rattle.verse_sound_rules.specs.Fine.{Fine, sort_at}
 
@@ -73,6 +73,7 @@ module _ (p : Program) (f : Found) where
     }) (params_behind function.params []) function.body
 
   pub record FineFound : Type 0 where
+    pub known : AllKnown f
     pub functions : (g : ℕ) (function : FunTree) → fun_at p g ≡ Some function →
         FineFunction g function
     pub defaults : (b : Tree) (q : Sort) → IsDefault p f b q → FineDefault b q

@@ -1,6 +1,8 @@
 -- Calls, spawned calls and defaults, as deep as there are steps.
 use Rattle.std.proofs.Common.{◌≡◌, ℕ, zero, suc, ◌<◌, ◌≤◌, Bool, true, false, List, [], ◌∷◌, ◌++◌, length, Option, Some, None, refl, sym}
 use Rattle.std.proofs.Common.{subst, ap, ◌∙◌, inl, inr, arith}
+use Rattle.std.proofs.lemmas.Option.{same_Some}
+use Rattle.verse_base.proofs.Facts.{length_more}
 use Rattle.verse_tree.specs.ItemTree.{ParamTree, FunTree}
 use Rattle.verse_tree.specs.declared.tables.Ref.TheVariants as ref
 use Rattle.verse_value.specs.Val as v
@@ -47,13 +49,6 @@ no_true h = cc
 no_some : {A B : Type 0} {x : A} → None ≡ Some x → B
 no_some h = cc
 
-pub some_sort : (a b : Sort) → Some a ≡ Some b → a ≡ b
-some_sort a b h = cc
-
-longer : {A : Type 0} (xs : List A) (x : A) → length (xs ++ x ∷ []) ≡ suc (length xs)
-longer [] x = refl
-longer (y ∷ xs) x = ap suc (longer xs x)
-
 module _ (p : Program) (f : Found) where
   -- the parameters with the arguments
   pub record Named (t : Typing) (class : Option ℕ) (xs : Table) (made : Option Env) : Type 0 where
@@ -79,7 +74,7 @@ module _ (p : Program) (f : Found) where
   in_body : (sig : Signature) (m : Bool) (b : Sort) → Fits f.up b sig.result → Bounds f body (in_function sig m) sig.decides b sig.result
   in_body sig m b h = record {
     fails = λ g. g;
-    returns = λ z g. (tt, subst (λ z. Fits f.up z sig.result) (some_sort sig.result z g) (fits_itself f.up sig.result));
+    returns = λ z g. (tt, subst (λ z. Fits f.up z sig.result) (same_Some sig.result z g) (fits_itself f.up sig.result));
     breaks = λ g. no_true g;
     value = h;
   }
@@ -88,7 +83,7 @@ module _ (p : Program) (f : Found) where
       Bounds f (root entry) (in_function sig true) false b sig.result
   in_root entry sig b d h = record {
     fails = λ g. no_true (sym d ∙ g);
-    returns = λ z g. (tt, subst (λ z. Fits f.up z sig.result) (some_sort sig.result z g) (fits_itself f.up sig.result));
+    returns = λ z g. (tt, subst (λ z. Fits f.up z sig.result) (same_Some sig.result z g) (fits_itself f.up sig.result));
     breaks = λ g. no_true g;
     value = h;
   }
@@ -159,7 +154,7 @@ module _ (p : Program) (f : Found) where
   task_kept n t b w k = record {
     cells = cells_more f.up f.slots (task_grows t b) k.cells;
     clock = record {
-      entries = longer w.state.clock.results None ∙ (ap suc k.clock.entries ∙ sym (longer t.entries b));
+      entries = length_more w.state.clock.results None ∙ (ap suc k.clock.entries ∙ sym (length_more t.entries b));
       waits = k.clock.waits;
       results = λ i a h. at_last t b a w.state.clock.results i k.clock.entries h (λ a g. given_more f.up a (given_by
           (nth w.state.clock.results i)) (task_grows t b) (k.clock.results i a g));

@@ -1,9 +1,10 @@
 -- What a wait gives when it is due is of the wait's sort.
-use Rattle.std.proofs.Common.{◌≡◌, ℕ, zero, suc, Bool, true, false, cond, List, [], ◌∷◌, Option, Some, None, refl, sym, subst, ap, ◌∙◌}
+use Rattle.std.proofs.Common.{◌≡◌, ℕ, Bool, true, false, cond, List, [], ◌∷◌, Option, Some, None, refl, sym, subst, ◌∙◌}
 use Rattle.std.specs.Prelude.{nat_lt}
 use Rattle.verse_meaning_state.specs.State.{State, Given, Signal}
 use Rattle.verse_meaning_state.specs.Waits.{Cause, till, never, done, heard, Wait, eqn, ltn, has, first_signal, due_of, Due, sooner_of}
 use Rattle.verse_meaning_state.specs.Waits.{least}
+use Rattle.verse_meaning_state.proofs.Numbers.{eqn_is, eqn_same}
 use Rattle.verse_sorts.specs.Sorts as s
 use Rattle.verse_sorts.specs.Sorts.{Sort}
 use Rattle.verse_sorts.specs.Typing.{at, Typing, Is}
@@ -13,19 +14,13 @@ module _ (up : ℕ → Option ℕ) where
   some_event : (a b : Sort) → Some (s.event a) ≡ Some (s.event b) → a ≡ b
   some_event a b h = cc
 
-  same_number : (a b : ℕ) → eqn a b ≡ true → a ≡ b
-  same_number zero zero h = refl
-  same_number zero (suc b) h = cc
-  same_number (suc a) zero h = cc
-  same_number (suc a) (suc b) h = ap suc (same_number a b h)
-
   one_signal : (t : Typing) (a b : Sort) (g : Signal) (e : ℕ) (p q : Bool) (o : Option Given) → eqn e g.event ≡ p →
       at t.cells e ≡ Some (s.event a) →
       at t.cells g.event ≡ Some (s.event b) → Is up t g.given.value b → GivenOf up t a o → GivenOf up t a (cond p (cond q
       (Some g.given) o) o)
   one_signal t a b g e true true o h j k i r =
       subst (λ z. Is up t g.given.value z) (some_event b a (sym k ∙ subst (λ z. at t.cells z ≡ Some (s.event a))
-      (same_number e g.event h) j)) i
+      (eqn_is e g.event h) j)) i
   one_signal t a b g e true false o h j k i r = r
   one_signal t a b g e false q o h j k i r = r
 
@@ -41,10 +36,6 @@ module _ (up : ℕ → Option ℕ) where
   due_given t a st n never h k = tt
   due_given t a st n (done i) h k = k.results i a h
   due_given t a st n (heard e) h k = signal_given t a e n st.clock.signals h k.signals
-
-  number_itself : (n : ℕ) → eqn n n ≡ true
-  number_itself zero = refl
-  number_itself (suc n) = number_itself n
 
   -- what is due is a wait of the list, with a value of its sort
   abbrev pub DueOf : Typing → List Wait → Option Due → Type 0
@@ -79,5 +70,5 @@ module _ (up : ℕ → Option ℕ) where
   least_due t st [] h k = tt
   least_due t st (w ∷ ws) h k =
       sooner_due t (w ∷ ws) w.number (due_of st w.number w.cause) (least st ws) h.0.0 h.0.1 (due_given t h.0.0 st w.number w.cause h.0.2 k)
-      (subst (λ z. cond z true (has w.number ws) ≡ true) (sym (number_itself w.number)) refl) (later_due t w ws (least st ws)
+      (subst (λ z. cond z true (has w.number ws) ≡ true) (sym (eqn_same w.number)) refl) (later_due t w ws (least st ws)
       (least_due t st ws h.1 k))

@@ -1,7 +1,7 @@
 -- A small program is fine, so the laws are not about none.
 use Rattle.std.proofs.Common.{◌≡◌, false, [], ◌∷◌, Some, None, refl}
 use Rattle.verse_sorts.specs.Sorts as s
-use Rattle.verse_sorts.specs.Sorts.{to_any, fits_int}
+use Rattle.verse_sorts.specs.Sorts.{fits_int}
 use Rattle.verse_sorts.specs.Typing.{fit_no, fit_so}
 use Rattle.verse_sound_rules.specs.Found.{Found}
 use Rattle.verse_sound_rules.specs.Forms.{IsDefault, is_default, is_local, takes_sum}
@@ -28,6 +28,13 @@ pub small_fine : FineProgram small
 small_fine = record {
   found = found;
   fine = record {
+    known = record {
+      sort = λ n. tt;
+      key = λ n. tt;
+      slots = λ c i q h. no_some h;
+      params = λ g i q h. no_some h;
+      result = λ g. tt;
+    };
     functions = λ g fn h. no_some h;
     defaults = λ b q h. no_default h;
     slots = λ c d i q h g. no_some g;

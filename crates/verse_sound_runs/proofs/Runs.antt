@@ -51,12 +51,12 @@ module _ (p : Program) (f : Found) where
   inputs_are xs (x ∷ ps) (q ∷ qs) ns has_inputs h = are_so (is_list (ints_are ns)) are_no
 
   in_main : (b r : Sort) → Bounds f (root None) (record { fails = false; result = Some r; breaks = false; waits = true; this = None })
-      false b s.any
+      false b s.none
   in_main b r = record {
     fails = λ h. no_true h;
-    returns = λ z h. (tt, s.to_any);
+    returns = λ z h. (tt, s.to_none);
     breaks = λ h. no_true h;
-    value = s.to_any;
+    value = s.to_none;
   }
 
   module _ (leave : (g : ℕ) → ContextLeaves p g) (undo : (g : ℕ) → ContextUndoes p (deeper p g)) (cancel : (g : ℕ) →
@@ -65,7 +65,7 @@ module _ (p : Program) (f : Found) where
         Rattle.verse_sound_trees.specs.Names.Sees f nothing None (params_behind m.function.params []) e →
         Sound p f n (came [] (entered p (deeper p g) (root None) m.function e true (world st none [])))
     start_typed n g st m e k see =
-        came_sound p f n nothing s.any [] tt
+        came_sound p f n nothing s.none [] tt
         (scope_typed p f cancel n g (root None) nothing (record {
           fails = false;
           result = Some m.result;
@@ -73,7 +73,7 @@ module _ (p : Program) (f : Found) where
           waits = true;
           this = None;
         }) false
-        (sort_at p f m.function.body) s.any none (in_main (sort_at p f m.function.body) m.result) tt tt
+        (sort_at p f m.function.body) s.none none (in_main (sort_at p f m.function.body) m.result) tt tt
         (ev_well p f (for_turns n) g (known_at p f leave undo cancel fine n g) m.function.body
         (record { fails = false; result = Some m.result; breaks = false; waits = true; this = None })
         (params_behind m.function.params []) nothing e m.body see

@@ -1,8 +1,7 @@
 -- A name that the checker finds is found in the environment.
-use Rattle.std.proofs.Common.{◌≡◌, ℕ, Bool, true, false, cond, ◌&&◌, ◌==◌, [], ◌∷◌, ◌++◌, Option, Some, None, refl, sym}
+use Rattle.std.proofs.Common.{◌≡◌, ℕ, Bool, true, false, cond, [], ◌∷◌, ◌++◌, Option, Some, None, refl, sym}
 use Rattle.std.proofs.Common.{subst, ap, ◌∙◌}
 use Rattle.std.specs.Str.{bytes_eq}
-use Rattle.std.proofs.lemmas.Slice.Eq.{bytes_eq-Decides}
 use Rattle.verse_tree.specs.Tree.{Bytes}
 use Rattle.verse_tree.specs.declared.tables.Ref.{Ref}
 use Rattle.verse_tree.specs.declared.tables.Ref.TheVariants as ref
@@ -12,43 +11,13 @@ use Rattle.verse_names_declarations.specs.Names as names
 use Rattle.verse_sorts.specs.Sorts.{Sort}
 use Rattle.verse_sorts.specs.Typing.{Typing, Grows}
 use Rattle.verse_sorts.proofs.Fitting.{is_more}
-use Rattle.verse_meaning.specs.Programs.{same_name}
 use Rattle.verse_meaning.specs.Residuals.{Env, Bound, constant}
 use Rattle.verse_meaning.specs.Forms as forms
 use Rattle.verse_meaning.specs.Forms.{bound_to, this_name}
+use Rattle.verse_meaning.proofs.Names.{one_test, test_itself, test_same}
 use Rattle.verse_sound_rules.specs.Found.{Found, New}
+use Rattle.verse_sound_rules.proofs.Tables.{absent_test, look_new, look_old}
 use Rattle.verse_sound_trees.specs.Names.{Holds, holds_value, holds_cell, HasThis, no_this, this_is, Sees}
-
-and_cond : (q r t : Bool) → r ≡ t → cond q r false ≡ (q && t)
-and_cond true r t h = h
-and_cond false r t h = refl
-
--- the two tests of names are one
-pub one_test : (x y : Bytes) → same_name x y ≡ bytes_eq x y
-one_test [] [] = refl
-one_test [] (c ∷ y) = refl
-one_test (b ∷ x) [] = refl
-one_test (b ∷ x) (c ∷ y) = and_cond (b == c) (same_name x y) (bytes_eq x y) (one_test x y)
-
-test_same : (x y : Bytes) → bytes_eq x y ≡ true → x ≡ y
-test_same x y h = (bytes_eq-Decides x y).0 h
-
-test_itself : (x : Bytes) → bytes_eq x x ≡ true
-test_itself x = (bytes_eq-Decides x x).1 refl
-
-absent_test : (q : Bool) (r : Ref) (o : Option Ref) → cond q (Some r) o ≡ None → (q ≡ false) × (o ≡ None)
-absent_test true r o h = cc
-absent_test false r o h = (refl, h)
-
--- the new name behind the others, and the others before it
-look_new : (y : Bytes) (r : Ref) (xs : Table) → names.look y xs ≡ None → names.look y (xs ++ (y, r) ∷ []) ≡ Some r
-look_new y r [] h = rw (test_itself y)
-look_new y r (e ∷ xs) h =
-    let k = absent_test (bytes_eq y e.0) e.1 (names.look y xs) h in rw (k.0, look_new y r xs k.1)
-
-look_old : (x y : Bytes) (r : Ref) (xs : Table) → bytes_eq x y ≡ false → names.look x (xs ++ (y, r) ∷ []) ≡ names.look x xs
-look_old x y r [] h = rw h
-look_old x y r (e ∷ xs) h = ap (cond (bytes_eq x e.0) (Some e.1)) (look_old x y r xs h)
 
 some_ref : (m n : ℕ) → Some (ref.Local m) ≡ Some (ref.Local n) → m ≡ n
 some_ref m n h = cc

@@ -1,6 +1,7 @@
 -- Task scopes end and go on.
 use Rattle.std.proofs.Common.{◌≡◌, ℕ, zero, suc, Bool, true, false, List, [], ◌∷◌, length, Option, Some, None, refl, sym}
 use Rattle.std.proofs.Common.{subst, ap, ◌∙◌}
+use Rattle.std.proofs.lemmas.Option.{same_Some}
 use Rattle.verse_value.specs.Val.{Val}
 use Rattle.verse_meaning_state.specs.State.{State, Given, set_at}
 use Rattle.verse_meaning_state.specs.Waits.{has, nth, given_by}
@@ -53,9 +54,6 @@ module _ (p : Program) (f : Found) where
   set_given t a (x ∷ xs) (suc i) zero g h k = k
   set_given t a (x ∷ xs) (suc i) (suc j) g h k = set_given t a xs i j g (λ e. h (ap suc e)) k
 
-  same_sort : (a b : Sort) → Some a ≡ Some b → a ≡ b
-  same_sort a b h = cc
-
   -- a task has given its value
   pub finished_kept : (n : ℕ) (q : Role) (t : Typing) (r : Sort) (y : Val) (w : World) → EntryIs t q r → Is f.up t y r →
       KeptIn p f (LeftScope p f n) t w → KeptIn p f (LeftScope p f n) t (finished q y w)
@@ -68,7 +66,7 @@ module _ (p : Program) (f : Found) where
       entries = set_long w.state.clock.results j _ ∙ k.clock.entries;
       waits = k.clock.waits;
       results = λ m a e. set_given t a w.state.clock.results j m (record { value = y; moment = w.state.clock.now })
-          (λ same. subst (λ z. Is f.up t y z) (same_sort r a (sym h ∙ subst (λ z. at t.entries z ≡ Some a) same e)) i)
+          (λ same. subst (λ z. Is f.up t y z) (same_Some r a (sym h ∙ subst (λ z. at t.entries z ≡ Some a) same e)) i)
           (k.clock.results m a e);
       signals = k.clock.signals;
     };

@@ -3,6 +3,8 @@ use Rattle.std.proofs.Common.{◌≡◌, ℕ, zero, suc, Bool, true, false, cond
 use Rattle.std.proofs.Common.{subst, ap, ◌∙◌}
 use Rattle.std.specs.Prelude.{slice_get}
 use Rattle.std.proofs.Common.{arith}
+use Rattle.std.proofs.lemmas.Option.{same_Some}
+use Rattle.verse_base.proofs.Facts.{length_more}
 use Rattle.verse_value.specs.Val as v
 use Rattle.verse_value.specs.Val.{Val}
 use Rattle.verse_value.specs.declared.runs.CellKind.{CellKind}
@@ -10,6 +12,7 @@ use Rattle.verse_value.specs.declared.runs.CellKind.TheVariants as cell
 use Rattle.verse_meaning_state.specs.State.{State, Given, Signal, drawn, signalled}
 use Rattle.verse_meaning_state.specs.Waits.{Cause, Wait, waiting, done, heard, nth, eqn, given_by}
 use Rattle.verse_meaning_state.specs.Effects.{event_of, event_at, signal_sent}
+use Rattle.verse_meaning_state.proofs.Numbers.{eqn_is}
 use Rattle.verse_sorts.specs.Sorts as s
 use Rattle.verse_sorts.specs.Sorts.{Sort}
 use Rattle.verse_sorts.specs.Typing.{at, Typing, Grows, Is, is_event, is_task, is_unit}
@@ -27,22 +30,9 @@ use Rattle.verse_sound_trees.proofs.Waiting.{signals_more, cause_more, given_mor
 use Rattle.verse_sound_trees.proofs.Worlds.{behind_more, tasks_more, later_itself}
 use Rattle.verse_sound_trees.proofs.Going.{up_to}
 
-same_number : (a b : ℕ) → eqn a b ≡ true → a ≡ b
-same_number zero zero h = refl
-same_number zero (suc b) h = cc
-same_number (suc a) zero h = cc
-same_number (suc a) (suc b) h = ap suc (same_number a b h)
-
 one_has : (i : ℕ) (x : Wait) (b : Bool) → eqn i x.number ≡ b → cond b true false ≡ true → i ≡ x.number
-one_has i x true e h = same_number i x.number e
+one_has i x true e h = eqn_is i x.number e
 one_has i x false e h = cc
-
-some_sort : (a b : Sort) → Some a ≡ Some b → a ≡ b
-some_sort a b h = cc
-
-longer : {A : Type 0} (xs : List A) (x : A) → length (xs ++ x ∷ []) ≡ suc (length xs)
-longer [] x = refl
-longer (y ∷ xs) x = ap suc (longer xs x)
 
 -- the element at a place that another list as long has
 pub data Has_at {A : Type 0} (xs : List A) (i : ℕ) : Type 0 where
@@ -75,7 +65,7 @@ module _ (p : Program) (f : Found) where
     cells = cells_more f.up f.slots (wait_grows t b) k.cells;
     clock = record {
       entries = k.clock.entries;
-      waits = ap suc k.clock.waits ∙ sym (longer t.waits b);
+      waits = ap suc k.clock.waits ∙ sym (length_more t.waits b);
       results = λ i a h. given_more f.up a (given_by (nth w.state.clock.results i)) (wait_grows t b) (k.clock.results i a h);
       signals = signals_more f.up w.state.clock.signals (wait_grows t b) k.clock.signals;
     };
@@ -98,7 +88,7 @@ module _ (p : Program) (f : Found) where
     left_leaf n u a b x e h c,
     λ o fuel i y q w g k j l kp.
         let m : i ≡ x.number = one_has i x (eqn i x.number) refl l in
-        let z : q ≡ b = some_sort q b (sym k ∙ subst (λ z. at o.waits z ≡ Some b) (sym m) (g.waits _ _ h)) in
+        let z : q ≡ b = same_Some q b (sym k ∙ subst (λ z. at o.waits z ≡ Some b) (sym m) (g.waits _ _ h)) in
         gives (later_itself a.waits o) kp (subst (λ z. Is f.up o y z) z j) tt,
   )
 

@@ -45,6 +45,7 @@ use Rattle.verse_sound_rules.specs.Fine.{target_sorts, target_sorts_of}
 use Rattle.verse_sound_rules.specs.Fine.{on_callee, on_member, on_statement, seen_behind, seen_after, stated_behind, Generates, Defines}
 use Rattle.verse_sound_rules.specs.Fine.{IsEnumValue, is_enum_value}
 use Rattle.verse_sound_rules.specs.Fine.{ArmFits, arm_fits, no_subject}
+use Rattle.verse_sound_rules.proofs.Both.{both_gives}
 use Rattle.verse_sound_trees.specs.Names.{Holds, holds_value, holds_cell, Sees}
 use Rattle.verse_sound_trees.specs.Outcomes.{any_names, gives, fails, returns, breaks}
 use Rattle.verse_sound_trees.specs.Going.{Level, bare, turns, Kept, LeftAt, Ready, Comes, Within}
@@ -69,6 +70,10 @@ use Rattle.verse_sound_trees.proofs.Levels.{Taken, taken_are, generates_taken}
 
 no_both : {A : Type 0} → false ≡ true → A
 no_both h = cc
+
+-- a list of what fits the elements of a list fits that
+list_up : {up : ℕ → Option ℕ} {q r w : Sort} → w ≡ s.list r → Fits up q r → Fits up (s.list q) w
+list_up {up = up} {q = q} e f = subst (λ z. Fits up (s.list q) z) (sym e) (s.fits_list f)
 
 -- a context that fails leaves a clock that differs in steps alone
 calm_of : (w : World) {x : Outcome} (st : State) → Keeps false w x → x ≡ o.failed st → Calm w.state.clock st.clock
@@ -303,10 +308,10 @@ module _ (p : Program) (f : Found) (top : Level) (fuel : ℕ) (known : Known p f
     shape_well (t.Shape.assignment m b d) a xs n pl t e h see =
         well_is p f top fuel t a (f.sort n) (λ g w. list_args p (deeper p g) e (form.storing (base_of p b) (mode_of m) pl) []
         (target_list b ++ d ∷ []) a.waits w) _
-        (λ g w. targets_are p (deeper p g) b (form.storing (base_of p b) (mode_of m) pl) (d ∷ []) a.waits e w (is_target a xs b h.0))
+        (λ g w. targets_are p (deeper p g) b (form.storing (base_of p b) (mode_of m) pl) (d ∷ []) a.waits e w (is_target a xs b h.0.0))
         (list_well xs t a e (form.storing (base_of p b) (mode_of m) pl) (target_sorts p f b ++ sort_at p f d ∷ []) (f.sort n)
         (target_list b ++ d ∷ []) h.2 see
-        (all_join t a e (target_list b) (target_sorts p f b) (d ∷ []) (sort_at p f d ∷ []) (target_well b a xs t e h.0 see)
+        (all_join t a e (target_list b) (target_sorts p f b) (d ∷ []) (sort_at p f d ∷ []) (target_well b a xs t e h.0.0 see)
         (ev_well d a xs t e h.1 see, tt)))
     shape_well (t.Shape.returned b) a xs n pl t e h see =
         list_well xs t a e form.returning (sort_at p f b ∷ []) (f.sort n) (b ∷ []) h.1 see (ev_well b a xs t e h.0 see, tt)
@@ -346,12 +351,13 @@ module _ (p : Program) (f : Found) (top : Level) (fuel : ℕ) (known : Known p f
     shape_well (t.Shape.for_form ts b) a xs n pl t e h see = λ l g sp rd u w gr k.
         attempted_typed p f l w _ _ k (λ st same. ((known.undo g).first_domain ts b n pl a.waits e w st same).0)
         (clauses_typed ts a xs v.unit s.any u e h.0 (sees_more f gr see) is_any l g sp w k)
-        (λ u1 e1 y z g1 k1 i se. up_to p f l h.2 (level_typed ts a xs b y s.any (v.array v.no_vals) pl u1 e1 h.0
+        (λ u1 e1 y z g1 k1 i se. up_to p f l (list_up h.3 h.4) (level_typed ts a xs b y s.any (v.array v.no_vals) pl u1 e1 h.0
         (λ u2 e2 se2. ev_well b a (seen_after ts xs) u2 e2 h.1 se2) l g sp rd se i (is_list no_all) z k1))
-        (λ z kz. gives_value p f l e (v.array v.no_vals) kz (is_up f.up (is_list no_all) h.2))
+        (λ z kz. gives_value p f l e (v.array v.no_vals) kz (is_up f.up (is_list no_all) (list_up h.3 h.4)))
     shape_well (t.Shape.chained op.Div b d) a xs n pl t e h see = absurd h
     shape_well (t.Shape.chained op.And b d) a xs n pl t e h see =
-        list_well xs t a e (form.computing op.And (p.is_array n) pl) (sort_at p f b ∷ sort_at p f d ∷ []) (f.sort n) (b ∷ d ∷ []) h.2 see
+        list_well xs t a e (form.computing op.And (p.is_array n) pl) (sort_at p f b ∷ sort_at p f d ∷ []) (f.sort n) (b ∷ d ∷ [])
+        (both_gives p f a xs (p.is_array n) pl (sort_at p f b) (sort_at p f d) (f.sort n) h.2) see
         (ev_well b a xs t e h.0 see, (ev_well d a xs t e h.1 see, tt))
     shape_well (t.Shape.chained op.Add b d) a xs n pl t e h see =
         list_well xs t a e (form.computing op.Add (p.is_array n) pl) (sort_at p f b ∷ sort_at p f d ∷ []) (f.sort n) (b ∷ d ∷ []) h.2 see
@@ -400,7 +406,7 @@ module _ (p : Program) (f : Found) (top : Level) (fuel : ℕ) (known : Known p f
         (λ g w. λ j. valued (ev p (deeper p g) b a.waits e w) (λ z. form.args e x [] z (trees_list ts)) (λ y z. all_are p
         (deeper p g) ts x (y ∷ []) a.waits e z j))
         (list_well xs t a e x (sort_at p f b ∷ sorts_at p f ts) (f.sort n) (b ∷ trees_list ts) i.2 see
-        (ev_well b a xs t e i.0 see, trees_well ts a xs t e i.1 see)))
+        (ev_well b a xs t e i.0.0 see, trees_well ts a xs t e i.1 see)))
         (λ x i. quotient_well ts a xs t e n x i see) h
     shape_well (t.Shape.integer z) a xs n pl t e h see = const_well t a (f.sort n) e (v.int z) (λ u. is_up f.up is_int h)
     shape_well (t.Shape.character c) a xs n pl t e h see = const_well t a (f.sort n) e (v.char c) (λ u. is_up f.up is_char h)
@@ -425,7 +431,7 @@ module _ (p : Program) (f : Found) (top : Level) (fuel : ℕ) (known : Known p f
     shape_well (t.Shape.mapping ps) a xs n pl t e h see =
         well_is p f top fuel t a (f.sort n) (λ g w. list_args p (deeper p g) e (form.making_map pl) [] (pairs_list ps) a.waits w) _
         (λ g w. paired_are p (deeper p g) ps (form.making_map pl) [] a.waits e w)
-        (list_well xs t a e (form.making_map pl) (pair_sorts p f ps) (f.sort n) (pairs_list ps) h.1 see (pairs_well ps a xs t e h.0 see))
+        (list_well xs t a e (form.making_map pl) (pair_sorts p f ps) (f.sort n) (pairs_list ps) h.1 see (pairs_well ps a xs t e h.0.0 see))
     shape_well (t.Shape.instance x gs) a xs n pl t e h see = λ l g sp rd u w gr k.
         known_there p f top fuel known a l g sp rd xs w (class_ref p (ref_at p n)) h.0 _ h.1
         (well_is p f top fuel t a (f.sort n) (λ g w. list_args p (deeper p g) e (form.instancing h.0 (given_names gs) pl) []
@@ -455,14 +461,14 @@ module _ (p : Program) (f : Found) (top : Level) (fuel : ℕ) (known : Known p f
     shape_well (t.Shape.branch b) a xs n pl t e h see =
         branch_well p f known.cancel top fuel a h.0 t (sort_at p f b) (f.sort n) e (λ g w. ev p (deeper p g) b true e w) h.2 (ev_well b
         (armed a) xs t e h.1 see)
-    shape_well (t.Shape.sync ts) a xs n pl t e h see = group_well p f known.cancel top fuel a h.0 t sync pl e (f.sort n) ts
-        (sorts_at p f ts) h.2 (armed_well ts a h.0 xs t e h.1 see)
+    shape_well (t.Shape.sync ts) a xs n pl t e h see = group_well p f known.cancel top fuel a h.0.0 t sync pl e (f.sort n) ts
+        (sorts_at p f ts) h.2 (armed_well ts a h.0.0 xs t e h.1 see)
     shape_well (t.Shape.race ts) a xs n pl t e h see =
-        group_well p f known.cancel top fuel a h.0 t race pl e (f.sort n) ts (sorts_at p f ts) (each_fits (armed a) xs
-        (f.sort n) ts h.1) (each_well ts a h.0 xs (f.sort n) t e h.1 see)
+        group_well p f known.cancel top fuel a h.0.0 t race pl e (f.sort n) ts (sorts_at p f ts) (each_fits (armed a) xs
+        (f.sort n) ts h.1) (each_well ts a h.0.0 xs (f.sort n) t e h.1 see)
     shape_well (t.Shape.rush ts) a xs n pl t e h see =
-        group_well p f known.cancel top fuel a h.0 t rush pl e (f.sort n) ts (sorts_at p f ts) (each_fits (armed a) xs
-        (f.sort n) ts h.1) (each_well ts a h.0 xs (f.sort n) t e h.1 see)
+        group_well p f known.cancel top fuel a h.0.0 t rush pl e (f.sort n) ts (sorts_at p f ts) (each_fits (armed a) xs
+        (f.sort n) ts h.1) (each_well ts a h.0.0 xs (f.sort n) t e h.1 see)
     shape_well (t.Shape.spawn b) a xs n pl t e h see = spawned_well b a xs n t e h see
     shape_well (t.Shape.sleep d) a xs n pl t e h see = sleeps_well t a (f.sort n) e (λ w. after d w.state) h.0
         (λ u w. is_up f.up is_unit h.1)

@@ -10,6 +10,7 @@ use Rattle.verse_meaning.specs.Programs.{Program}
 use Rattle.verse_meaning.specs.Residuals.{Residual, leaves, Scope, Scopes, none, also, scope_leaves}
 use Rattle.verse_meaning.specs.Outcomes.{World, with_state}
 use Rattle.verse_meaning.specs.Laws.{Calm}
+use Rattle.verse_meaning.proofs.Keeping.{stepped_calm}
 use Rattle.verse_sound_rules.specs.Found.{Found, Allowed}
 use Rattle.verse_sound_trees.specs.Outcomes.{Later, Cells}
 use Rattle.verse_sound_trees.specs.Going.{AllBehind, AllTasks, Dropped, Cancels, CancelsScope, Left, LeftScope, Level}
@@ -35,9 +36,6 @@ adds_later false t u g = g
 
 pub calm_itself : (st : State) → Calm st.clock st.clock
 calm_itself st = record { now = refl; next = refl; results = refl; signals = refl }
-
-pub stepped_calm : (l : ℕ) (st : State) → Calm st.clock (stepped l st).clock
-stepped_calm l st = record { now = refl; next = refl; results = refl; signals = refl }
 
 pub ready_false : (l : Level) → Ready l false
 ready_false bare = refl

@@ -38,6 +38,7 @@ use Rattle.verse_sound_rules.specs.Fine.{sort_at, sorts_at, hole_sorts, pair_sor
 use Rattle.verse_sound_rules.specs.Fine.{object_sort}
 use Rattle.verse_sound_rules.specs.Fine.{target_sorts, target_sorts_of, on_statement, seen_behind, seen_after}
 use Rattle.verse_sound_rules.specs.Fine.{stated_behind, Generates, Defines}
+use Rattle.verse_sound_rules.proofs.Both.{both_gives}
 use Rattle.verse_sound_trees.specs.Names.{Sees}
 use Rattle.verse_sound_trees.specs.Outcomes.{any_names}
 use Rattle.verse_sound_trees.specs.Going.{turns, Kept, Comes, Within}
@@ -259,11 +260,11 @@ module _ (p : Program) (f : Found) (n : ℕ) (leave : (g : ℕ) → ContextLeave
         as_list t (λ w. list_args p (deeper p g) e (form.storing (base_of p b) (mode_of y) pl) []
         (target_list b ++ d ∷ []) a.waits w) _
         (λ w. targets_are p (deeper p g) b (form.storing (base_of p b) (mode_of y) pl) (d ∷ []) a.waits e w
-        (is_target a xs b h.0))
+        (is_target a xs b h.0.0))
         (list_rests a xs t e (form.storing (base_of p b) (mode_of y) pl) (target_sorts p f b ++ sort_at p f d ∷ [])
         (f.sort i) (target_list b ++ d ∷ []) h.2 tt see
         (every_join a xs t e (target_list b) (target_sorts p f b) (d ∷ []) (sort_at p f d ∷ [])
-        (target_good b a xs t e h.0 m.0 see) (good d a xs t e h.1 m.1 see, tt)))
+        (target_good b a xs t e h.0.0 m.0 see) (good d a xs t e h.1 m.1 see, tt)))
     shape_stays (t.Shape.returned b) a xs i pl t e h m see =
         list_rests a xs t e form.returning (sort_at p f b ∷ []) (f.sort i) (b ∷ []) h.1 tt see
         (good b a xs t e h.0 m see, tt)
@@ -306,7 +307,8 @@ module _ (p : Program) (f : Found) (n : ℕ) (leave : (g : ℕ) → ContextLeave
     shape_stays (t.Shape.chained op.Div b d) a xs i pl t e h m see = absurd h
     shape_stays (t.Shape.chained op.And b d) a xs i pl t e h m see =
         list_rests a xs t e (form.computing op.And (p.is_array i) pl) (sort_at p f b ∷ sort_at p f d ∷ []) (f.sort i)
-        (b ∷ d ∷ []) h.2 tt see (good b a xs t e h.0 m.0 see, (good d a xs t e h.1 m.1 see, tt))
+        (b ∷ d ∷ []) (both_gives p f a xs (p.is_array i) pl (sort_at p f b) (sort_at p f d) (f.sort i) h.2) tt see
+        (good b a xs t e h.0 m.0 see, (good d a xs t e h.1 m.1 see, tt))
     shape_stays (t.Shape.chained op.Add b d) a xs i pl t e h m see =
         list_rests a xs t e (form.computing op.Add (p.is_array i) pl) (sort_at p f b ∷ sort_at p f d ∷ []) (f.sort i)
         (b ∷ d ∷ []) h.2 tt see (good b a xs t e h.0 m.0 see, (good d a xs t e h.1 m.1 see, tt))
@@ -354,7 +356,7 @@ module _ (p : Program) (f : Found) (n : ℕ) (leave : (g : ℕ) → ContextLeave
         (λ y z. all_are p (deeper p g) ts x (y ∷ []) a.waits e z c))
         (list_rests a xs t e x (sort_at p f b ∷ sorts_at p f ts) (f.sort i) (b ∷ trees_list ts) j.2
         (stays_any p f suspends a.this x (sort_at p f b ∷ sorts_at p f ts) l) see
-        (good b a xs t e j.0 m.1 see, trees_good ts a xs t e j.1 m.2 see)) u w gr k)
+        (good b a xs t e j.0.0 m.1 see, trees_good ts a xs t e j.1 m.2 see)) u w gr k)
         (λ x j l. quotient_rests ts a xs t e i x j l m.2 see u w gr k)
     shape_stays (t.Shape.integer z) a xs i pl t e h m see = λ u w gr k. tt
     shape_stays (t.Shape.character c) a xs i pl t e h m see = λ u w gr k. tt
@@ -376,7 +378,7 @@ module _ (p : Program) (f : Found) (n : ℕ) (leave : (g : ℕ) → ContextLeave
         as_list t (λ w. list_args p (deeper p g) e (form.making_map pl) [] (pairs_list ps) a.waits w) _
         (λ w. paired_are p (deeper p g) ps (form.making_map pl) [] a.waits e w)
         (list_rests a xs t e (form.making_map pl) (pair_sorts p f ps) (f.sort i) (pairs_list ps) h.1 tt see
-        (pairs_good ps a xs t e h.0 m see))
+        (pairs_good ps a xs t e h.0.0 m see))
     shape_stays (t.Shape.instance x gs) a xs i pl t e h m see = λ u w gr k.
         known_is (class_ref p (ref_at p i)) h.0 w _ h.1
         (as_list t (λ w. list_args p (deeper p g) e (form.instancing h.0 (given_names gs) pl) [] (givens_list gs)

@@ -2,7 +2,6 @@
 use Rattle.std.proofs.Common.{◌≡◌, ℕ, zero, suc, ◌+◌, ◌<◌, ◌≤◌, List, [], ◌∷◌, ◌++◌, length, map, slice_index_or, refl, sym, ◌∙◌, ap}
 use Rattle.std.proofs.Common.{subst, inl, inr, append_assoc, append-nil, arith}
 use Rattle.verse_base.specs.declared.limits.TheConstants.{MOST_FILE_BYTES}
-use Rattle.verse_outside.specs.Causes.{Rose}
 use Rattle.verse_outside.specs.Held.{Holding, Lacks, Loads}
 use Rattle.verse_top.specs.Loading.{AreLoaded, IsAbsent, IsAmong, IsTooLarge, most_bytes}
 
@@ -44,10 +43,6 @@ module _ (held : Holding) (names : List (List ℕ)) where
   pub loads_all : (i n : ℕ) (rest loaded : List (List ℕ)) → LoadsOn i n rest loaded → rest ≡ [] → AreLoaded held names loaded
   loads_all i n rest loaded x e = subst (λ fs. AreLoaded held names fs) (append-nil loaded)
       (x.all [] (subst (λ r. AreLoaded held r []) (sym e) tt))
-
-pub rose_from : (before mid now : ℕ) → before ≤ mid → Rose mid now → Rose before now
-rose_from before mid now low (inl up) = inl (omega arith)
-rose_from before mid now low (inr top) = inr top
 
 pub name_at : {A : Type 0} (text : A → List ℕ) (words : List A) (i : ℕ) (d : A) → i < length words → d ≡ slice_index_or words i d →
     slice_index_or (map text words) i [] ≡ text d

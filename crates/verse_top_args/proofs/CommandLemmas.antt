@@ -1,6 +1,6 @@
 -- The words are one command.
 use Rattle.std.proofs.Common.{◌≡◌, ◌≢◌, ◌↔◌, ℕ, ℤ, Option, Some, None, List, [], ◌∷◌, ◌++◌, codes, refl, sym, ap, ◌∙◌, subst, ◌≤◌, length}
-use Rattle.std.proofs.Common.{unwrap_or, Result, Ok, Err, IfOk, Bool, true, false, map, string_bytes, append-nil, arith, ◌<◌}
+use Rattle.std.proofs.Common.{unwrap_or, Bool, true, false, map, string_bytes, append-nil, arith, ◌<◌}
 use Rattle.std.proofs.Common.{slice_index_or}
 use Rattle.std.specs.Str.{bytes_eq}
 use Rattle.std.proofs.lemmas.Slice.Eq.{bytes_eq-Decides}
@@ -365,10 +365,6 @@ inputs_are given word e fits ms l =
     let known = (inputs_listed given word e).1 fits in
     let same : known.0 ≡ ms = list_once known.1 l in
     subst (λ g. Inputs g ms) (sym e) (listed l (subst (λ ks. length ks ≤ 1000) same known.2))
-
-pub ok_then : {T E : Type 0} (r : Result T E) (P Q : T → Type 0) → ((x : T) → P x → Q x) → IfOk r P → IfOk r Q
-ok_then (Ok x) P Q f h = f x h
-ok_then (Err e) P Q f h = tt
 
 -- the words of a command with these files, and options behind them
 abbrev pub words_with : List ℕ → List (List ℕ) → List (List ℕ) → List (List ℕ)

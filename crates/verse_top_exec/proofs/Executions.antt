@@ -1,18 +1,14 @@
 -- Bytes are the image of one code at most, and none where a place fails.
 use Rattle.std.proofs.Common.{◌≡◌, ℕ, ◌-◌, List, length, Ok, Err, refl, sym, ap, subst, ◌∙◌}
 use Rattle.verse_code.specs.declared.codes.Code.{Code}
-use Rattle.verse_image.specs.Format.{Image}
 use Rattle.verse_image.specs.Reading.{flaw, image_at}
 use Rattle.verse_image.specs.declared.faults.Flaw.{Flaw}
-use Rattle.verse_image.proofs.ImageLaws.{image_again}
+use Rattle.verse_image.proofs.ImageLaws.{image_again, one_code}
 use Rattle.verse_meaning_state.specs.Texts.{run_text}
 use Rattle.verse_top_texts.specs.Endings.{ending_status}
 use Rattle.verse_top_texts.specs.Images.{image_line}
 use Rattle.verse_top_args.specs.Words.{Options}
 use Rattle.verse_top_exec.specs.Executions.{ExecutedOnce, Executes, IsFault, Runs, no_image, ran, run_with}
-
-one_code : (bytes : List ℕ) (v w : ℕ) (c d : Code) → Image v c bytes → Image w d bytes → c ≡ d
-one_code bytes v w c d p q = let a = image_again v c bytes p in let b = image_again w d bytes q in cc (a, b)
 
 runs_once : (c d : Code) (o : Options) (s t : ℕ) (x y : List ℕ) → c ≡ d → Runs c o s x → Runs d o t y → (s ≡ t) × (x ≡ y)
 runs_once c d o s t x y e p q = (

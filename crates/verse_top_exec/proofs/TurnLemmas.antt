@@ -2,8 +2,6 @@
 use Rattle.std.proofs.Common.{◌≡◌, ℕ, zero, suc, ◌+◌, ◌≤◌, List, [], ◌∷◌, ◌++◌, Option, Some, None, map, length, refl, ap, sym, subst, ◌∙◌}
 use Rattle.std.proofs.Common.{append-nil, arith}
 use Rattle.std.specs.List.{flat_map}
-use Rattle.std.proofs.lemmas.Grind.{flat_map-append}
-use Rattle.verse_base.specs.TraceLine.{line_bytes}
 use Rattle.verse_outside.specs.Causes.{Rose}
 use Rattle.verse_outside.specs.Held.{with_more, TookPrefix}
 use Rattle.verse_code.specs.declared.codes.Code.{Code}
@@ -12,6 +10,7 @@ use Rattle.verse_value.specs.Runs.{Line}
 use Rattle.verse_value.specs.declared.runs.Ending.{Ending}
 use Rattle.verse_meaning_state.specs.Turns.{Stage, going, closed, broken, amiss}
 use Rattle.verse_meaning_state.specs.Effects.{printed}
+use Rattle.verse_meaning_state.proofs.Lines.{printed_both}
 use Rattle.verse_code_machine.specs.Laws.{IsOver}
 use Rattle.verse_code_machine.specs.Runs.{Forest}
 use Rattle.sim_clock.specs.declared.waits.Pending.{Pending}
@@ -33,9 +32,6 @@ use Rattle.verse_top_exec.specs.Leaving.{Stopped, Wrote, WroteFront}
 use Rattle.verse_top_exec.specs.Turns.{Written, unbegun, begun, lines_on, StandsAt, Reached, Shown, Ended, stop_of}
 use Rattle.verse_top_exec.proofs.InsideRuns.{Counts}
 use Rattle.verse_top_exec.proofs.Takes.{more_nothing, more_then, rose_from, took_behind}
-
-printed_more : (xs ys : List Line) → printed (xs ++ ys) ≡ printed xs ++ printed ys
-printed_more xs ys = flat_map-append (λ (l : Line). line_bytes l.moment l.bytes) xs ys
 
 same_state : (g : Stage Forest) → t.state_in g ≡ s.state_in g
 same_state (going u ts) = refl
@@ -73,7 +69,7 @@ module _ {H W : Type 0} (state : H → Kept) (pending : W → List Pending) (c :
         new ≡ with_more old (printed (lines_on c w turn))
     after_turn e t =
         more_then old mid new (printed r.past) (printed t.took.more) r.taken t.took.taken
-        ∙ ap (with_more old) (sym (printed_more r.past t.took.more) ∙ ap printed (sym t.took.all_are))
+        ∙ ap (with_more old) (sym (printed_both r.past t.took.more) ∙ ap printed (sym t.took.all_are))
 
     pub reached_next : TurnedTo state pending c w.origin w.steps w.until turn r.past None mid new n →
         Reached state pending c w (turn + 1) old new n
@@ -112,7 +108,7 @@ module _ {H W : Type 0} (state : H → Kept) (pending : W → List Pending) (c :
         Stopped (ComesSoFar c w) (ComesSoFar c w) before now old new stop.Failed
     stops_within before at now low rose p =
         let text : printed r.past ++ printed p.more ≡ trace_text (stage_on c w turn) =
-        sym (printed_more r.past p.more) ∙ ap printed (sym p.all_are) ∙ lines_text c w turn in (
+        sym (printed_both r.past p.more) ∙ ap printed (sym p.all_are) ∙ lines_text c w turn in (
           rose_from before at now low rose,
           (
             trace_text (stage_on c w turn),

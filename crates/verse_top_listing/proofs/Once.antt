@@ -4,7 +4,7 @@ use Rattle.verse_code.specs.declared.codes.Code.{Code}
 use Rattle.verse_image.specs.Format.{Image, version_of}
 use Rattle.verse_image.specs.Reading.{flaw, image_at}
 use Rattle.verse_image.specs.declared.faults.Flaw.{Flaw}
-use Rattle.verse_image.proofs.ImageLaws.{image_again, image_once}
+use Rattle.verse_image.proofs.ImageLaws.{image_again, image_once, one_code}
 use Rattle.verse_listing_format.specs.Format.{Listing}
 use Rattle.verse_listing.specs.Reading.{listing_at}
 use Rattle.verse_listing.specs.Reading as line
@@ -14,9 +14,6 @@ use Rattle.verse_top_texts.specs.Images.{image_line}
 use Rattle.verse_top_texts.specs.Listings.{listing_line}
 use Rattle.verse_top_listing.specs.Listings.{Assembles, AssembledOnce, ListedIsAssembled, ListedOnce, Lists, assembled, listed, no_image}
 use Rattle.verse_top_listing.specs.Listings.{no_listing}
-
-one_image_code : (bytes : List ℕ) (v w : ℕ) (c d : Code) → Image v c bytes → Image w d bytes → c ≡ d
-one_image_code bytes v w c d p q = let a = image_again v c bytes p in let b = image_again w d bytes q in cc (a, b)
 
 one_listing_code : (bytes : List ℕ) (c d : Code) → Listing c bytes → Listing d bytes → c ≡ d
 one_listing_code bytes c d p q = let a = listing_again c bytes p in let b = listing_again d bytes q in cc (a, b)
@@ -28,7 +25,7 @@ one_image : (c d : Code) (x y : List ℕ) → c ≡ d → Image (version_of c) c
 one_image c d x y e p q = image_once (version_of c) c x y p (subst (λ (k : Code). Image (version_of k) k y) (sym e) q)
 
 pub lists_once : ListedOnce
-lists_once bytes s t x y (listed v c _ i l) (listed w d _ j m) = (refl, one_listing c d x y (one_image_code bytes v w c d i j) l m)
+lists_once bytes s t x y (listed v c _ i l) (listed w d _ j m) = (refl, one_listing c d x y (one_code bytes v w c d i j) l m)
 lists_once bytes s t x y (listed v c _ i l) (no_image rule left e) = let a = image_again v c bytes i in absurd (cc (a, e))
 lists_once bytes s t x y (no_image rule left e) (listed w d _ j m) = let a = image_again w d bytes j in absurd (cc (a, e))
 lists_once bytes s t x y (no_image rule left e) (no_image role less f) =
@@ -48,7 +45,7 @@ image_of c d image e i = subst (λ (k : Code). Image (version_of k) k image) (sy
 
 pub listed_assembled : ListedIsAssembled
 listed_assembled bytes text image status c v i (listed w d _ j l) (assembled e _ m k) =
-    (refl, image_of c e image (one_image_code bytes v w c d i j ∙ one_listing_code text d e l m) k)
+    (refl, image_of c e image (one_code bytes v w c d i j ∙ one_listing_code text d e l m) k)
 listed_assembled bytes text image status c v i (listed w d _ j l) (no_listing rule at e) =
     let a = listing_again d text l in absurd (cc (a, e))
 

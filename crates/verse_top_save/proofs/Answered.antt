@@ -1,10 +1,9 @@
 -- A fault that is told is that of the bytes; and bytes have one answer, but for the order in which trees are kept.
 use Rattle.std.proofs.Common.{◌≡◌, ◌⊎◌, inl, inr, ℕ, ◌-◌, List, length, Err, refl, sym, ap, subst, ◌∙◌}
 use Rattle.verse_code.specs.declared.codes.Code.{Code}
-use Rattle.verse_image.specs.Format.{Image}
 use Rattle.verse_image.specs.Reading.{flaw, image_at}
 use Rattle.verse_image.specs.declared.faults.Flaw.{Flaw}
-use Rattle.verse_image.proofs.ImageLaws.{image_again}
+use Rattle.verse_image.proofs.ImageLaws.{image_again, one_code}
 use Rattle.verse_value.specs.declared.runs.Ending.TheVariants as ending
 use Rattle.verse_code_machine.specs.Tasks.{tree_waits}
 use Rattle.verse_meaning_state.specs.Turns.{run_of}
@@ -18,9 +17,6 @@ pub saves_fault : (bytes : List ℕ) (o : Options) (rule at left s : ℕ) (t : L
 saves_fault bytes o rule at left s t e f p =
     let text : t ≡ image_line rule (length bytes - left) = p.1 ∙ ap (image_line rule) f in
     rw (p.0, text) (no_image rule left e)
-
-one_code : (bytes : List ℕ) (v w : ℕ) (c d : Code) → Image v c bytes → Image w d bytes → c ≡ d
-one_code bytes v w c d p q = let a = image_again v c bytes p in let b = image_again w d bytes q in cc (a, b)
 
 -- a run that is saved stopped at its horizon
 saved_until : (c : Code) (o : Options) (s : ℕ) (x : List ℕ) → IsSaved c o s x → (run_with c o).ending ≡ ending.Until

@@ -4,7 +4,7 @@ use Rattle.verse_code.specs.declared.codes.Code.{Code}
 use Rattle.verse_image.specs.Format.{Image}
 use Rattle.verse_image.specs.Reading.{flaw, image_at}
 use Rattle.verse_image.specs.declared.faults.Flaw.{Flaw}
-use Rattle.verse_image.proofs.ImageLaws.{image_again}
+use Rattle.verse_image.proofs.ImageLaws.{image_again, one_code}
 use Rattle.verse_verify_faults.specs.Reading.{verdict}
 use Rattle.verse_top_texts.specs.Images.{image_line}
 use Rattle.verse_top_texts.specs.Verdicts.{notes_line, ok_line}
@@ -13,9 +13,6 @@ use Rattle.verse_verify.specs.declared.faults.VerifyFault.{VerifyFault}
 use Rattle.verse_verify.specs.declared.faults.VerifyFault.TheVariants as fault
 use Rattle.verse_verify.specs.Answers.{Answers}
 use Rattle.verse_top_verify.specs.Verifying.{PassedIsNeverStuck, VerifiedOnce, Verifies, broken, no_image, passed}
-
-one_code : (bytes : List ℕ) (v w : ℕ) (c d : Code) → Image v c bytes → Image w d bytes → c ≡ d
-one_code bytes v w c d p q = let a = image_again v c bytes p in let b = image_again w d bytes q in cc (a, b)
 
 one_verdict : (bytes notes : List ℕ) (v w : ℕ) (c d : Code) → Image v c bytes → Image w d bytes → verdict c notes ≡ verdict d notes
 one_verdict bytes notes v w c d p q = ap (λ (k : Code). verdict k notes) (one_code bytes v w c d p q)

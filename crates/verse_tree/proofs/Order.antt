@@ -1,6 +1,7 @@
 -- What is numbered has the numbers from the first on, and is the same but for them.
 use Rattle.std.proofs.Common.{◌≡◌, ℕ, suc, zero, ◌+◌, List, [], ◌∷◌, ◌++◌, map, length, Option, Some, None, refl, sym, ap, ◌∙◌, arith}
 use Rattle.std.specs.List.{range_with_len}
+use Rattle.std.proofs.lemmas.List.FromFn.{length-range_with_len}
 use Rattle.verse_tree.specs.Tree.{Written, Writtens, no_writtens, more_writtens, Tree, tree, Shape, Trees, no_trees, more_trees, Holes}
 use Rattle.verse_tree.specs.Tree.{no_holes, more_holes, Pairs, no_pairs, more_pairs, Givens, no_givens, more_givens}
 use Rattle.verse_tree.specs.Tree as t
@@ -327,20 +328,16 @@ items_in_order [] next = refl
 items_in_order (x ∷ xs) next = both _ _ next (item_nodes x) (items_nodes xs) (item_in_order x next)
     (items_in_order xs (next + item_nodes x))
 
-numbers_length : (ns : List Node) → length (numbers ns) ≡ length ns
+pub numbers_length : (ns : List Node) → length (numbers ns) ≡ length ns
 numbers_length [] = refl
 numbers_length (n ∷ ns) = ap suc (numbers_length ns)
-
-range_length : (n a : ℕ) → length (range_with_len n a) ≡ a
-range_length n zero = refl
-range_length n (suc a) = ap suc (range_length (n + 1) a)
 
 pub program_in_order : ProgramInOrder
 program_in_order items =
     let numbered_items = items_numbered items 0 in
     let before : numbers (items_order numbered_items) ≡ range_with_len 0 (items_nodes items) = items_in_order items 0 in
     let last : length (items_order numbered_items) ≡ items_nodes items =
-    sym (numbers_length (items_order numbered_items)) ∙ ap length before ∙ range_length 0 (items_nodes items) in
+    sym (numbers_length (items_order numbered_items)) ∙ ap length before ∙ length-range_with_len 0 (items_nodes items) in
     let behind : items_nodes items ≡ 0 + items_nodes items = omega arith in
     both _ _ 0 (items_nodes items) 1 before (ap (λ (n : ℕ). n ∷ []) (last ∙ behind))
 
@@ -374,3 +371,7 @@ item_kept (i.ItemTree.function f) next = ap i.ItemTree.function (fun_kept f next
 
 pub items_kept : NumbersAlone
 items_kept items next = list_kept item_numbered item_nodes item_cleared item_kept items next
+
+pub both_nodes : (is js : List ItemTree) → items_nodes (is ++ js) ≡ items_nodes is + items_nodes js
+both_nodes [] js = omega arith
+both_nodes (i ∷ is) js = let rest = both_nodes is js in omega arith

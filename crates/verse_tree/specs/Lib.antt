@@ -9,3 +9,4 @@ pub mod PostOrder
 pub mod Numbers
 pub mod Shapes
 pub mod Sizes
+pub mod FieldLists

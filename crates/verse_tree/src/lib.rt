@@ -2,7 +2,7 @@
 //!
 //! To be read in this order: `names`, spelled names and texts; `types`, written types; `exprs`,
 //! blocks, statements and expressions; `items`, what a file defines; `tables`, what names stand
-//! for and which types nodes have; `programs`, all three together; `laws`, what numbering means;
+//! for and which types nodes have, with `fields`, those of a class; `programs`, all three together; `laws`, what numbering means;
 //! `sizes`, the size of a program, over `instance_fields`.
 //!
 //! The public lemmas, which crates above cite, are those of `proofs/Lists`, `proofs/Order`,
@@ -10,6 +10,7 @@
 #![tactic(auto)]
 
 pub mod exprs;
+pub mod fields;
 mod instance_fields;
 pub mod items;
 pub mod laws;

@@ -1,6 +1,8 @@
 //! What is known of a program's names and types: tables beside the tree, by the numbers of its
 //! nodes.
 
+use crate::fields::FieldList;
+use shared_list::SharedList;
 use sqlite_items::{Boxed, Items};
 
 /// A type of the language.
@@ -82,14 +84,15 @@ pub struct FieldInfo {
     pub default: Option<u32>,
 }
 
-/// A class, with all fields and methods that its instances have, the root's first.
+/// A class, with all fields and methods that its instances have, the root's first. Classes share
+/// those that they have from the same ancestors.
 #[derive(Drop)]
 pub struct ClassInfo {
     pub parent: Option<u32>,
     pub is_unique: bool,
-    pub fields: Items<FieldInfo>,
+    pub fields: FieldList,
     /// Its methods, as numbers of functions.
-    pub methods: Items<u32>,
+    pub methods: SharedList<u32>,
 }
 
 /// An enum, by how many values it has.

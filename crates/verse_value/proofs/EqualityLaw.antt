@@ -2,24 +2,14 @@
 use Rattle.std.proofs.Common.{◌≡◌, Bool, true, false, ◌&&◌, ◌==◌, refl, sym, ap, ◌∙◌}
 use Rattle.std.proofs.lemmas.Bool.Decides.{Decides-eqb, Decides-int_eq}
 use lib.Pointwise.{bytes_decides}
+use Rattle.std.proofs.lemmas.Bool.{and_from}
+use Rattle.verse_base.proofs.Facts.{and_first, and_second}
 use Rattle.verse_value.specs.declared.keys.Key.{Key}
 use Rattle.verse_value.specs.declared.keys.Key.TheVariants as key
 use Rattle.verse_value.specs.Keys.{key_eq}
 use Rattle.verse_value.specs.Val.{Val, unit, falsity, truth, int, char, enum, object, event, task, some, array, mapping, tuple, Vals}
 use Rattle.verse_value.specs.Val.{no_vals, more_vals, Pairs, no_pairs, more_pairs}
 use Rattle.verse_value.specs.Equality.{val_eq, vals_eq, pairs_eq, EqualityIsTested}
-
-left_true : (a b : Bool) → (a && b) ≡ true → a ≡ true
-left_true true b h = refl
-left_true false b h = absurd (cc)
-
-right_true : (a b : Bool) → (a && b) ≡ true → b ≡ true
-right_true true b h = h
-right_true false b h = absurd (cc)
-
-both_true : (a b : Bool) → a ≡ true → b ≡ true → (a && b) ≡ true
-both_true true b h g = g
-both_true false b h g = absurd (cc)
 
 same_bool : (a b : Bool) → key_eq (key.Logic a) (key.Logic b) ≡ true → a ≡ b
 same_bool true true h = refl
@@ -47,7 +37,7 @@ key_sound (key.Enum n i) (key.Int n') h = absurd (cc)
 key_sound (key.Enum n i) (key.Logic b') h = absurd (cc)
 key_sound (key.Enum n i) (key.Char n') h = absurd (cc)
 key_sound (key.Enum n i) (key.Enum n' i') h =
-    λ j. key.Enum ((Decides-eqb n n').0 (left_true (n == n') (i == i') h) j) ((Decides-eqb i i').0 (right_true (n == n') (i == i') h) j)
+    λ j. key.Enum ((Decides-eqb n n').0 (and_first (n == n') (i == i') h) j) ((Decides-eqb i i').0 (and_second (n == n') (i == i') h) j)
 key_sound (key.Enum n i) (key.Text bs') h = absurd (cc)
 key_sound (key.Text bs) (key.Int n') h = absurd (cc)
 key_sound (key.Text bs) (key.Logic b') h = absurd (cc)
@@ -60,7 +50,7 @@ key_same (key.Int n) = (Decides-int_eq n n).1 refl
 key_same (key.Logic true) = refl
 key_same (key.Logic false) = refl
 key_same (key.Char n) = (Decides-eqb n n).1 refl
-key_same (key.Enum n i) = both_true (n == n) (i == i) ((Decides-eqb n n).1 refl) ((Decides-eqb i i).1 refl)
+key_same (key.Enum n i) = and_from (n == n) (i == i) ((Decides-eqb n n).1 refl) ((Decides-eqb i i).1 refl)
 key_same (key.Text bs) = (bytes_decides bs bs).1 refl
 
 mutual
@@ -135,8 +125,8 @@ mutual
   sound (enum n i) truth h = absurd (cc)
   sound (enum n i) (int n') h = absurd (cc)
   sound (enum n i) (char n') h = absurd (cc)
-  sound (enum n i) (enum n' i') h = λ j. enum ((Decides-eqb n n').0 (left_true (n == n') (i == i') h) j)
-      ((Decides-eqb i i').0 (right_true (n == n') (i == i') h) j)
+  sound (enum n i) (enum n' i') h = λ j. enum ((Decides-eqb n n').0 (and_first (n == n') (i == i') h) j)
+      ((Decides-eqb i i').0 (and_second (n == n') (i == i') h) j)
   sound (enum n i) (object n') h = absurd (cc)
   sound (enum n i) (event n') h = absurd (cc)
   sound (enum n i) (task n') h = absurd (cc)
@@ -241,18 +231,18 @@ mutual
   vals_sound no_vals (more_vals w ws) h = absurd (cc)
   vals_sound (more_vals v vs) no_vals h = absurd (cc)
   vals_sound (more_vals v vs) (more_vals w ws) h =
-      λ j. more_vals (sound v w (left_true (val_eq v w) (vals_eq vs ws) h) j)
-      (vals_sound vs ws (right_true (val_eq v w) (vals_eq vs ws) h) j)
+      λ j. more_vals (sound v w (and_first (val_eq v w) (vals_eq vs ws) h) j)
+      (vals_sound vs ws (and_second (val_eq v w) (vals_eq vs ws) h) j)
 
   pairs_sound : (ps qs : Pairs) → pairs_eq ps qs ≡ true → ps ≡ qs
   pairs_sound no_pairs no_pairs h = refl
   pairs_sound no_pairs (more_pairs l w qs) h = absurd (cc)
   pairs_sound (more_pairs k v ps) no_pairs h = absurd (cc)
   pairs_sound (more_pairs k v ps) (more_pairs l w qs) h =
-      let first : (key_eq k l && val_eq v w) ≡ true = left_true (key_eq k l && val_eq v w) (pairs_eq ps qs) h in
-      λ j. more_pairs (key_sound k l (left_true (key_eq k l) (val_eq v w) first) j)
-      (sound v w (right_true (key_eq k l) (val_eq v w) first) j)
-      (pairs_sound ps qs (right_true (key_eq k l && val_eq v w) (pairs_eq ps qs) h) j)
+      let first : (key_eq k l && val_eq v w) ≡ true = and_first (key_eq k l && val_eq v w) (pairs_eq ps qs) h in
+      λ j. more_pairs (key_sound k l (and_first (key_eq k l) (val_eq v w) first) j)
+      (sound v w (and_second (key_eq k l) (val_eq v w) first) j)
+      (pairs_sound ps qs (and_second (key_eq k l && val_eq v w) (pairs_eq ps qs) h) j)
 
 mutual
   pub val_same : (v : Val) → val_eq v v ≡ true
@@ -261,7 +251,7 @@ mutual
   val_same truth = refl
   val_same (int n) = (Decides-int_eq n n).1 refl
   val_same (char n) = (Decides-eqb n n).1 refl
-  val_same (enum n i) = both_true (n == n) (i == i) ((Decides-eqb n n).1 refl) ((Decides-eqb i i).1 refl)
+  val_same (enum n i) = and_from (n == n) (i == i) ((Decides-eqb n n).1 refl) ((Decides-eqb i i).1 refl)
   val_same (object n) = (Decides-eqb n n).1 refl
   val_same (event n) = (Decides-eqb n n).1 refl
   val_same (task n) = (Decides-eqb n n).1 refl
@@ -272,12 +262,12 @@ mutual
 
   vals_same : (vs : Vals) → vals_eq vs vs ≡ true
   vals_same no_vals = refl
-  vals_same (more_vals v vs) = both_true (val_eq v v) (vals_eq vs vs) (val_same v) (vals_same vs)
+  vals_same (more_vals v vs) = and_from (val_eq v v) (vals_eq vs vs) (val_same v) (vals_same vs)
 
   pairs_same : (ps : Pairs) → pairs_eq ps ps ≡ true
   pairs_same no_pairs = refl
-  pairs_same (more_pairs k v ps) = both_true (key_eq k k && val_eq v v) (pairs_eq ps ps)
-      (both_true (key_eq k k) (val_eq v v) (key_same k) (val_same v)) (pairs_same ps)
+  pairs_same (more_pairs k v ps) = and_from (key_eq k k && val_eq v v) (pairs_eq ps ps)
+      (and_from (key_eq k k) (val_eq v v) (key_same k) (val_same v)) (pairs_same ps)
 
 pub equality_is_tested : EqualityIsTested
 equality_is_tested a b = (sound a b, λ e. ap (val_eq a) (sym e) ∙ val_same a)

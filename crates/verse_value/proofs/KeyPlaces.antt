@@ -6,6 +6,7 @@ use Rattle.std.proofs.lemmas.Iterator.Adapters.{position_from-zero}
 use Rattle.std.proofs.lemmas.List.{take_more}
 use Rattle.std.proofs.lemmas.Map.Keys.{IsDistinct-head, IsDistinct-tail}
 use Rattle.indexmap.specs.IndexSet.{insert_key}
+use Rattle.verse_base.proofs.Facts.{none_of_next, place_of_next}
 use Rattle.verse_value.specs.declared.keys.Key.{Key}
 use Rattle.verse_value.specs.Keys.{key_eq}
 use Rattle.verse_value.specs.Entries.{key_place}
@@ -13,7 +14,7 @@ use Rattle.verse_value.specs.Val.{Val, Pairs, no_pairs, more_pairs}
 use Rattle.verse_value.specs.Places.{with_last}
 use Rattle.verse_value.specs.Parts.{keys_in, pair_set}
 use Rattle.verse_value.specs.Operations.{with_entry}
-use Rattle.verse_value.proofs.Steps.{not_first, below, none}
+use Rattle.verse_value.proofs.Steps.{not_first}
 
 -- the place by counting
 from_place_cases : (k l : Key) (ks : List Key) (i : ℕ) (b : Bool) → key_eq k l ≡ b →
@@ -40,7 +41,7 @@ position_place k ks = position_from-zero (key_eq k) ks ∙ from_place k ks 0 ∙
 lacks_cases : (k l : Key) (ks : List Key) (b : Bool) → key_eq k l ≡ b → (key_place k ks ≡ None → list_any (key_eq k) ks ≡ false) →
     key_place k (l ∷ ks) ≡ None → list_any (key_eq k) (l ∷ ks) ≡ false
 lacks_cases k l ks true h rest f = absurd (let g : Some zero ≡ None = rw h at f in cc)
-lacks_cases k l ks false h rest f = rw h (rest (none (key_place k ks) (rw h at f)))
+lacks_cases k l ks false h rest f = rw h (rest (none_of_next (key_place k ks) (rw h at f)))
 
 lacks : (k : Key) (ks : List Key) → key_place k ks ≡ None → list_any (key_eq k) ks ≡ false
 lacks k [] e = refl
@@ -79,7 +80,7 @@ within_cases : (k l : Key) (ks : List Key) (b : Bool) (j : ℕ) → key_eq k l �
 within_cases k l ks true zero h rest f = omega arith
 within_cases k l ks true (suc j) h rest f = absurd (let g : Some zero ≡ Some (suc j) = rw h at f in cc)
 within_cases k l ks false zero h rest f = absurd (not_first (key_place k ks) (rw h at f))
-within_cases k l ks false (suc j) h rest f = omega (arith, rest j (below (key_place k ks) j (rw h at f)))
+within_cases k l ks false (suc j) h rest f = omega (arith, rest j (place_of_next (key_place k ks) j (rw h at f)))
 
 pub place_within : (ks : List Key) (k : Key) (i : ℕ) → key_place k ks ≡ Some i → i < length ks
 place_within [] k i e = absurd (cc)
@@ -92,12 +93,12 @@ module _ (k l : Key) (w : Val) (ps : Pairs) (v : Val) where
   present_cases true zero h rest e = rw h refl
   present_cases true (suc i) h rest e = absurd (let g : Some zero ≡ Some (suc i) = rw h at e in cc)
   present_cases false zero h rest e = absurd (not_first (key_place k (keys_in ps)) (rw h at e))
-  present_cases false (suc i) h rest e = rw h (ap (more_pairs l w) (rest i (below (key_place k (keys_in ps)) i (rw h at e))))
+  present_cases false (suc i) h rest e = rw h (ap (more_pairs l w) (rest i (place_of_next (key_place k (keys_in ps)) i (rw h at e))))
 
   absent_cases : (b : Bool) → key_eq k l ≡ b → (key_place k (keys_in ps) ≡ None → with_entry ps k v ≡ with_last ps k v) →
       key_place k (l ∷ keys_in ps) ≡ None → with_entry (more_pairs l w ps) k v ≡ more_pairs l w (with_last ps k v)
   absent_cases true h rest e = absurd (let g : Some zero ≡ None = rw h at e in cc)
-  absent_cases false h rest e = rw h (ap (more_pairs l w) (rest (none (key_place k (keys_in ps)) (rw h at e))))
+  absent_cases false h rest e = rw h (ap (more_pairs l w) (rest (none_of_next (key_place k (keys_in ps)) (rw h at e))))
 
 -- a value at a key: a present key keeps its place, a new one goes last
 pub with_entry_present : (ps : Pairs) (k : Key) (v : Val) (i : ℕ) → key_place k (keys_in ps) ≡ Some i → with_entry ps k v ≡ pair_set ps i v

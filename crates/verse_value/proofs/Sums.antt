@@ -10,6 +10,7 @@ use Rattle.verse_value.specs.Sizes.{weight_of, weights, pair_weights, key_weight
 use Rattle.verse_value.specs.Places.{nth, with_nth, with_last}
 use Rattle.verse_value.specs.Parts.{keys_in, vals_in, joined}
 use Rattle.verse_value.specs.Kept.{Measures, Resizes}
+use Rattle.verse_value.specs.Keys.{chars}
 use Rattle.verse_value.proofs.Seen.{set_seen, joined_seen, keys_seen, vals_seen, push_seen}
 
 part_within : (vs : Vals) (i : ℕ) (v : Val) → nth vs i ≡ Some v → weight_of v ≤ weights vs
@@ -128,7 +129,7 @@ pub levels_seen : (ks : List Key) (vs : List Value) → length vs ≡ length ks 
     most_pair_levels (pairs (zip ks (vals_of vs))) ≡ most_levels (vals (vals_of vs))
 levels_seen ks vs long = levels_in (pairs (zip ks (vals_of vs))) ∙ ap most_levels (vals_seen ks vs long)
 
-last_weights : (ps : Pairs) (k : Key) (v : Val) → pair_weights (with_last ps k v) ≡ pair_weights ps + (key_weight k + weight_of v)
+pub last_weights : (ps : Pairs) (k : Key) (v : Val) → pair_weights (with_last ps k v) ≡ pair_weights ps + (key_weight k + weight_of v)
 last_weights no_pairs k v = omega arith
 last_weights (more_pairs l w ps) k v = omega (arith, last_weights ps k v)
 
@@ -257,3 +258,11 @@ module _ (ks : List Key) (vs : List Value) (whole before after size : Size) (kep
         ap most_pair_levels seen,
         last_levels (pairs (zip ls (vals_of ws))) k (val_of v),
       )))
+
+pub chars_weigh : (bs : List ℕ) → weights (chars bs) ≡ length bs
+chars_weigh [] = refl
+chars_weigh (b ∷ bs) = omega (arith, chars_weigh bs)
+
+pub chars_flat : (bs : List ℕ) → most_levels (chars bs) ≤ 1
+chars_flat [] = omega arith
+chars_flat (b ∷ bs) = omega (arith, chars_flat bs)

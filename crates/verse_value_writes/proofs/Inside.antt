@@ -2,6 +2,7 @@
 use Rattle.std.proofs.Common.{◌≡◌, ℕ, zero, suc, ◌<◌, ℤ, pos, negsuc, Bool, true, false, ◌∷◌, Option, Some, None, option_map, nat_lt, arith}
 use Rattle.std.proofs.Common.{refl, sym, ap, subst, ◌∙◌}
 use Rattle.std.proofs.lemmas.Bool.Decides.{nat_tests}
+use Rattle.verse_base.proofs.Facts.{place_of_next}
 use Rattle.verse_value.specs.declared.keys.Key.{Key}
 use Rattle.verse_value.specs.Val.{Val, unit, falsity, truth, int, char, enum, object, event, task, some, array, mapping, tuple, Vals}
 use Rattle.verse_value.specs.Val.{no_vals, more_vals, Pairs, no_pairs, more_pairs}
@@ -11,7 +12,7 @@ use Rattle.verse_value.specs.Parts.{keys_in, vals_in, pair_set}
 use Rattle.verse_value.specs.Operations.{count, entry_count}
 use Rattle.verse_value.specs.Places.{Step, part, outside, absent, part_or, step_in, in_array, in_map, int_of, place_in, nth, with_nth}
 use Rattle.verse_value.specs.Places.{with_key, changed}
-use Rattle.verse_value.proofs.Steps.{not_first, below}
+use Rattle.verse_value.proofs.Steps.{not_first}
 use Rattle.verse_value.proofs.KeyPlaces.{place_within}
 use Rattle.verse_value.proofs.Seen.{key_count_in}
 
@@ -203,7 +204,7 @@ module _ (k l : Key) (v : Val) (ps : Pairs) (w : Val) where
   set_cases f x true zero h rest e n g = let same : v ≡ x = cc in rw h (ap (λ y. more_pairs l y ps) (g ∙ ap f (sym same)))
   set_cases f x true (suc i) h rest e n g = absurd (let d : Some zero ≡ Some (suc i) = rw h at e in cc)
   set_cases f x false zero h rest e n g = absurd (not_first (key_place k (keys_in ps)) (rw h at e))
-  set_cases f x false (suc i) h rest e n g = rw h (ap (more_pairs l v) (rest i (below (key_place k (keys_in ps)) i (rw h at e)) n))
+  set_cases f x false (suc i) h rest e n g = rw h (ap (more_pairs l v) (rest i (place_of_next (key_place k (keys_in ps)) i (rw h at e)) n))
 
   at_cases : (x : Val) (b : Bool) (i : ℕ) → key_eq k l ≡ b →
       ((j : ℕ) → key_place k (keys_in ps) ≡ Some j → nth (vals_in ps) j ≡ Some x → at_key ps k ≡ Some x)
@@ -211,7 +212,7 @@ module _ (k l : Key) (v : Val) (ps : Pairs) (w : Val) where
   at_cases x true zero h rest e n = rw h n
   at_cases x true (suc i) h rest e n = absurd (let d : Some zero ≡ Some (suc i) = rw h at e in cc)
   at_cases x false zero h rest e n = absurd (not_first (key_place k (keys_in ps)) (rw h at e))
-  at_cases x false (suc i) h rest e n = rw h (rest i (below (key_place k (keys_in ps)) i (rw h at e)) n)
+  at_cases x false (suc i) h rest e n = rw h (rest i (place_of_next (key_place k (keys_in ps)) i (rw h at e)) n)
 
 pair_set_is : (k : Key) (ps : Pairs) (w x : Val) (f : Val → Val) → w ≡ f x → (i : ℕ) → key_place k (keys_in ps) ≡ Some i →
     nth (vals_in ps) i ≡ Some x → pair_set ps i w ≡ with_key ps k f

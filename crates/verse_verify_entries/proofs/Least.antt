@@ -3,10 +3,12 @@ use Rattle.std.proofs.Common.{◌≡◌, ℕ, zero, suc, ◌<◌, ◌≤◌, Lis
 use Rattle.std.specs.Prelude.{◌&&◌, min}
 use Rattle.std.proofs.Math.Nat.{eq-or-lt_of_le}
 use mathlib.Core.Logic.{⊎_elim}
+use Rattle.std.proofs.lemmas.Bool.{cond_both}
+use Rattle.std.proofs.Math.Bool.{and-false}
 use Rattle.verse_code.specs.declared.codes.Func.{Func}
 use Rattle.verse_code.specs.declared.codes.Code.{Code}
 use Rattle.verse_meaning_state.specs.Waits.{eqn}
-use Rattle.verse_verify_entries.proofs.Tests.{cond_with, eqn_is, eqn_same}
+use Rattle.verse_meaning_state.proofs.Numbers.{eqn_is, eqn_same}
 use Rattle.verse_verify_kept.specs.Notes.{FuncNote}
 use Rattle.verse_verify_faults.specs.Spots.{Table, spot_at}
 use Rattle.verse_verify_faults.specs.Faults.{begins, begins_at, on_spot}
@@ -14,10 +16,6 @@ use Rattle.verse_verify_entries.specs.Entries.{begins_there, lesser, least_from}
 
 lower : (m n i : ℕ) → i < min m n → i < n
 lower m n i h = omega (arith, h)
-
-and_false : (b : Bool) → b && false ≡ false
-and_false true = refl
-and_false false = refl
 
 module _ (c : Code) (t : Table) where
   lesser_most : (m k : ℕ) (f : Func) (g : FuncNote) → lesser c t m k f g ≤ m
@@ -43,7 +41,7 @@ module _ (c : Code) (t : Table) where
   asked_there k f g i e = ap (λ j. asked k f g j) (sym e) ∙ ap (λ b. cond b (begins_there c t k f g) true) (eqn_same f.entry)
 
   asked_before : (m k : ℕ) (f : Func) (g : FuncNote) (i : ℕ) → i < lesser c t m k f g → asked k f g i ≡ true
-  asked_before m k f g i h = cond_with (eqn f.entry i) (on_spot (spot_at t i) (λ q. begins c t k f g q)) true (λ b. b ≡ true)
+  asked_before m k f g i h = cond_both (eqn f.entry i) (on_spot (spot_at t i) (λ q. begins c t k f g q)) true (λ b. b ≡ true)
       (λ e. at_entry (eqn_is f.entry i e)) (λ e. refl)
     where
       go : (b : Bool) → i < cond b m (min m f.entry) → f.entry ≡ i → b ≡ true
@@ -68,7 +66,7 @@ module _ (c : Code) (t : Table) where
   least_broken m k [] gs h = absurd (omega (arith, h))
   least_broken m k (f ∷ fs) [] h = refl
   least_broken m k (f ∷ fs) (g ∷ gs) h = under_or_at i n (least_most n (suc k) fs gs)
-      (λ l. ap (λ b. asked k f g i && b) (least_broken n (suc k) fs gs l) ∙ and_false (asked k f g i))
+      (λ l. ap (λ b. asked k f g i && b) (least_broken n (suc k) fs gs l) ∙ and-false (asked k f g i))
       (λ e. ap (λ b. b && begins_at c t (suc k) fs gs i) (here (begins_there c t k f g) refl i e h))
     where
       n : ℕ

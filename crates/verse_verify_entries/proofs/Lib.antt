@@ -1,3 +1,2 @@
-pub mod Tests
 pub mod Least
 pub mod Nothing

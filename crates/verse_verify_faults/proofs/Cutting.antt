@@ -8,14 +8,9 @@ use Rattle.verse_verify_kept.specs.Notes.{Notes, parent_of}
 use Rattle.verse_verify_kept.specs.Rules.{TriesFit, tries_no, tries_so}
 use Rattle.verse_code.specs.declared.codes.Code.{Code}
 use Rattle.verse_verify_faults.specs.Spots.{Mark, room, above, beneath, opens, even}
-use Rattle.verse_verify_faults.proofs.Fitting.{both}
-use Rattle.std.proofs.lemmas.Bool.{leb-true}
+use Rattle.std.proofs.lemmas.Bool.{leb-true, and_parts}
 use Rattle.std.proofs.lemmas.List.{length-append}
-
-pub take_all : {A : Type 0} (xs ys : List A) → take (length xs) (xs ++ ys) ≡ xs
-take_all [] [] = refl
-take_all [] (y ∷ ys) = refl
-take_all (x ∷ xs) ys = ap (λ zs. x ∷ zs) (take_all xs ys)
+use Rattle.std.proofs.Math.Seq.{take-append_seam, drop-length}
 
 pub drop_all : {A : Type 0} (xs ys : List A) → drop (length xs) (xs ++ ys) ≡ ys
 drop_all [] [] = refl
@@ -85,18 +80,10 @@ drop_length {A = A} (x ∷ xs) h l = by_room (suc (length xs) - h) refl (λ l. d
     by_room (suc k) e go =
         subst (λ k. length (drop k xs) ≡ h) (one (length xs) h k l e).1 (go (one (length xs) h k l e).0)
 
-take_whole : {A : Type 0} (xs : List A) → take (length xs) xs ≡ xs
-take_whole [] = refl
-take_whole (x ∷ xs) = ap (λ zs. x ∷ zs) (take_whole xs)
-
-drop_whole : {A : Type 0} (xs : List A) → drop (length xs) xs ≡ []
-drop_whole [] = refl
-drop_whole (x ∷ xs) = drop_whole xs
-
 pub beneath_length : (st : List Sort) (ms : List Mark) → even (length st) ms ≡ true → length (beneath st ms) ≡ under ms
-beneath_length st [] e = ap length (drop_whole st)
+beneath_length st [] e = ap length (drop-length st)
 beneath_length st (m ∷ ms) e =
-    drop_length st m.height (leb-true m.height (length st) (both (nat_le m.height (length st)) (even m.height ms) e).0)
+    drop_length st m.height (leb-true m.height (length st) (and_parts (nat_le m.height (length st)) (even m.height ms) e).0)
 
 pub whole : (st : List Sort) (ms : List Mark) → above st ms ++ beneath st ms ≡ st
 whole st ms = joined (room st ms) st
@@ -120,7 +107,7 @@ room_on xs bs (m ∷ ms) e f = sums (length (xs ++ bs)) (length xs) (length bs) 
     sums a b d h e f = omega (arith, e, f)
 
 pub no_beneath : (st : List Sort) (ms : List Mark) → ms ≡ [] → beneath st ms ≡ []
-no_beneath st [] e = drop_whole st
+no_beneath st [] e = drop-length st
 no_beneath st (m ∷ ms) e = no_cons e
   where
     no_cons : {A : Type 0} → m ∷ ms ≡ [] → A
@@ -132,7 +119,7 @@ module _ (st : List Sort) (ms : List Mark) (e : even (length st) ms ≡ true) wh
 
   pub above_on : (xs : List Sort) → above (xs ++ beneath st ms) ms ≡ xs
   above_on xs =
-      subst (λ k. take k (xs ++ beneath st ms) ≡ xs) (sym (room_here xs)) (take_all xs (beneath st ms))
+      subst (λ k. take k (xs ++ beneath st ms) ≡ xs) (sym (room_here xs)) (take-append_seam xs (beneath st ms))
 
   pub beneath_on : (xs : List Sort) → beneath (xs ++ beneath st ms) ms ≡ beneath st ms
   beneath_on xs =
@@ -147,7 +134,7 @@ opens_on st xs (m ∷ ms) e =
 pub even_more : (n k : ℕ) (ms : List Mark) → under ms ≤ k → even n ms ≡ true → even k ms ≡ true
 even_more n k [] l e = refl
 even_more n k (m ∷ ms) l e =
-    two (nat_le m.height k) (even m.height ms) (le-leb m.height k l) (both (nat_le m.height n) (even m.height ms) e).1
+    two (nat_le m.height k) (even m.height ms) (le-leb m.height k l) (and_parts (nat_le m.height n) (even m.height ms) e).1
   where
     two : (a b : Bool) → a ≡ true → b ≡ true → a && b ≡ true
     two a b e f = subst (λ a. a && b ≡ true) (sym e) f

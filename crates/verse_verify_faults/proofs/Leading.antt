@@ -4,9 +4,11 @@ use Rattle.std.proofs.Common.{subst, ap, ap₂, arith, ◌∙◌}
 use Rattle.std.specs.Prelude.{◌&&◌, slice_get}
 use Rattle.std.proofs.lemmas.Option.{none-some}
 use Rattle.std.proofs.lemmas.List.{length-append}
+use Rattle.std.proofs.lemmas.Bool.{and_parts}
 use Rattle.verse_code.specs.declared.codes.Code.{Code}
 use Rattle.verse_meaning_state.specs.Waits.{eqn}
-use Rattle.verse_code_machine_parents.proofs.Lists.{no_both, eqn_is}
+use Rattle.verse_meaning_state.proofs.Numbers.{eqn_is}
+use Rattle.verse_code_machine_parents.proofs.Lists.{no_both}
 use Rattle.verse_sorts.specs.Sorts as s
 use Rattle.verse_sorts.specs.Sorts.{Sort, Sorts, to_none, to_any, fits_list, fits_map, fits_var, fits_event}
 use Rattle.verse_sorts.specs.Typing.{AllFit, fit_no, fit_so}
@@ -18,7 +20,7 @@ use Rattle.verse_verify_faults.specs.Spots.{Mark, Spot, Table, live_spot, spot_a
 use Rattle.verse_verify_faults.specs.Stepping.{Made, is, list_of, map_of, var_of, event_of, one_of, inner, Goes, to}
 use Rattle.verse_verify_faults.specs.Faults.{same_number, same_numbers, same_arm, same_marks, known_marks, on_spot, holds, each_holds}
 use Rattle.verse_verify_faults.specs.Faults.{of_part, suits}
-use Rattle.verse_verify_faults.proofs.Fitting.{both, same_is, fit_is}
+use Rattle.verse_verify_faults.proofs.Fitting.{same_is, fit_is}
 use Rattle.verse_verify_faults.proofs.Cutting.{fit_length, above_fit, opens_fit, under, beneath_length, above_on, opens_on, even_more}
 
 pub number_is : (a b : Option ℕ) → same_number a b ≡ true → a ≡ b
@@ -30,8 +32,8 @@ number_is (Some a) None e = no_both (sym e)
 pub numbers_are : (xs ys : List ℕ) → same_numbers xs ys ≡ true → xs ≡ ys
 numbers_are [] [] e = refl
 numbers_are (x ∷ xs) (y ∷ ys) e =
-    ap₂ (λ z zs. z ∷ zs) (eqn_is x y (both (eqn x y) (same_numbers xs ys) e).0)
-    (numbers_are xs ys (both (eqn x y) (same_numbers xs ys) e).1)
+    ap₂ (λ z zs. z ∷ zs) (eqn_is x y (and_parts (eqn x y) (same_numbers xs ys) e).0)
+    (numbers_are xs ys (and_parts (eqn x y) (same_numbers xs ys) e).1)
 numbers_are [] (y ∷ ys) e = no_both (sym e)
 numbers_are (x ∷ xs) [] e = no_both (sym e)
 
@@ -44,8 +46,9 @@ arm_is (Some a) None e = no_both (sym e)
 pub marks_are : (xs ys : List Mark) → same_marks xs ys ≡ true → xs ≡ ys
 marks_are [] [] e = refl
 marks_are (x ∷ xs) (y ∷ ys) e =
-    more x y xs ys (eqn_is x.index y.index (both _ _ (both _ _ e).0).0) (eqn_is x.height y.height (both _ _ (both _ _ e).0).1) (marks_are xs
-    ys (both _ _ e).1)
+    more x y xs ys (eqn_is x.index y.index (and_parts _ _ (and_parts _ _ e).0).0)
+    (eqn_is x.height y.height (and_parts _ _ (and_parts _ _ e).0).1) (marks_are xs
+    ys (and_parts _ _ e).1)
   where
     more : (x y : Mark) (xs ys : List Mark) → x.index ≡ y.index → x.height ≡ y.height → xs ≡ ys → x ∷ xs ≡ y ∷ ys
     more x y xs ys e f g =
@@ -63,12 +66,13 @@ module _ (c : Code) (t : Table) where
   pub all_in : (xs : List Sort) (b : Sort) → all_fit t.classes xs b ≡ true → AllIn c notes b xs
   all_in [] b e = in_no
   all_in (a ∷ xs) b e =
-      in_so (fit_is t.classes a b (both (fit t.classes a b) (all_fit t.classes xs b) e).0) (all_in xs b (both (fit t.classes a b) (all_fit
+      in_so (fit_is t.classes a b (and_parts (fit t.classes a b) (all_fit t.classes xs b) e).0)
+      (all_in xs b (and_parts (fit t.classes a b) (all_fit
       t.classes xs b) e).1)
 
-  pub in_any : (xs : List Sort) → AllIn c notes s.any xs
-  in_any [] = in_no
-  in_any (a ∷ xs) = in_so to_any (in_any xs)
+  pub in_none : (xs : List Sort) → AllIn c notes s.none xs
+  in_none [] = in_no
+  in_none (a ∷ xs) = in_so to_none (in_none xs)
 
   -- a sort that holds what an operation made
   pub data Becomes : Made → Sort → Type 0 where
@@ -89,18 +93,20 @@ module _ (c : Code) (t : Table) where
     pub fits : Fit c notes sort b
 
   list_holds : (xs : List Sort) (b : Sort) → on_list b (λ d. all_fit t.classes xs d) ≡ true → Holds (list_of xs) b
-  list_holds xs s.none e = record { sort = s.list s.any; becomes = a_list (in_any xs); fits = to_none }
-  list_holds xs s.any e = record { sort = s.list s.any; becomes = a_list (in_any xs); fits = to_any }
+  list_holds xs s.none e = record { sort = s.list s.none; becomes = a_list (in_none xs); fits = to_none }
+  list_holds xs s.any e = record { sort = s.list s.none; becomes = a_list (in_none xs); fits = to_any tt }
   list_holds xs (s.list d) e = record { sort = s.list d; becomes = a_list (all_in xs d e); fits = fits_itself (parent_of notes) (s.list d) }
   list_holds xs b e = no_both (sym e)
 
   map_holds : (ks xs : List Sort) (b : Sort) → on_map b (λ k d. all_fit t.classes ks k && all_fit t.classes xs d) ≡ true →
       Holds (map_of ks xs) b
-  map_holds ks xs s.none e = record { sort = s.map s.any s.any; becomes = a_map (in_any ks) (in_any xs); fits = to_none }
-  map_holds ks xs s.any e = record { sort = s.map s.any s.any; becomes = a_map (in_any ks) (in_any xs); fits = to_any }
+  map_holds ks xs s.none e = record { sort = s.map s.none s.none; becomes = a_map (in_none ks) (in_none xs); fits = to_none }
+  map_holds ks xs s.any e = record { sort = s.map s.none s.none; becomes = a_map (in_none ks) (in_none xs); fits = to_any tt }
   map_holds ks xs (s.map k d) e = record {
     sort = s.map k d;
-    becomes = a_map (all_in ks k (both (all_fit t.classes ks k) (all_fit t.classes xs d) e).0) (all_in xs d (both (all_fit t.classes ks k)
+    becomes =
+        a_map (all_in ks k (and_parts (all_fit t.classes ks k) (all_fit t.classes xs d) e).0)
+        (all_in xs d (and_parts (all_fit t.classes ks k)
         (all_fit t.classes xs d) e).1);
     fits = fits_itself (parent_of notes) (s.map k d);
   }
@@ -108,7 +114,7 @@ module _ (c : Code) (t : Table) where
 
   var_holds : (a b : Sort) → on_var b (λ d. fit t.classes a d) ≡ true → Holds (var_of a) b
   var_holds a s.none e = record { sort = s.var a; becomes = a_var (fits_itself (parent_of notes) a); fits = to_none }
-  var_holds a s.any e = record { sort = s.var a; becomes = a_var (fits_itself (parent_of notes) a); fits = to_any }
+  var_holds a s.any e = record { sort = s.var a; becomes = a_var (fits_itself (parent_of notes) a); fits = to_any tt }
   var_holds a (s.var d) e = record {
     sort = s.var d;
     becomes = a_var (fit_is t.classes a d e);
@@ -118,7 +124,7 @@ module _ (c : Code) (t : Table) where
 
   event_holds : (b : Sort) → on_event b (λ d. true) ≡ true → Holds event_of b
   event_holds s.none e = record { sort = s.event s.any; becomes = an_event; fits = to_none }
-  event_holds s.any e = record { sort = s.event s.any; becomes = an_event; fits = to_any }
+  event_holds s.any e = record { sort = s.event s.any; becomes = an_event; fits = to_any tt }
   event_holds (s.event d) e = record { sort = s.event d; becomes = an_event; fits = fits_itself (parent_of notes) (s.event d) }
   event_holds b e = no_both (sym e)
 
@@ -138,7 +144,8 @@ module _ (c : Code) (t : Table) where
   pub each_made : (ms : List Made) (ys : List Sort) → each_holds t.classes ms ys ≡ true → AllHold ms ys
   each_made [] [] e = record { sorts = []; become = become_no; fit = fit_no }
   each_made (m ∷ ms) (b ∷ ys) e =
-      more (made_holds m b (both (holds t.classes m b) (each_holds t.classes ms ys) e).0) (each_made ms ys (both (holds t.classes m b)
+      more (made_holds m b (and_parts (holds t.classes m b) (each_holds t.classes ms ys) e).0)
+      (each_made ms ys (and_parts (holds t.classes m b)
       (each_holds t.classes ms ys) e).1)
     where
       more : Holds m b → AllHold ms ys → AllHold (m ∷ ms) (b ∷ ys)
@@ -175,15 +182,15 @@ module _ (c : Code) (t : Table) where
       live = point_there j q there ev;
       kin = record {
         func = func;
-        arm = arm_is p.arm q.arm (both _ _ (both _ _ (both _ _ (both _ _ part).0).0).0).0;
-        block = number_is p.block q.block (both _ _ (both _ _ (both _ _ (both _ _ part).0).0).0).1;
-        outer = numbers_are p.outer q.outer (both _ _ (both _ _ (both _ _ part).0).0).1;
-        under = eqn_is p.under q.under (both _ _ (both _ _ part).0).1;
+        arm = arm_is p.arm q.arm (and_parts _ _ (and_parts _ _ (and_parts _ _ (and_parts _ _ part).0).0).0).0;
+        block = number_is p.block q.block (and_parts _ _ (and_parts _ _ (and_parts _ _ (and_parts _ _ part).0).0).0).1;
+        outer = numbers_are p.outer q.outer (and_parts _ _ (and_parts _ _ (and_parts _ _ part).0).0).1;
+        under = eqn_is p.under q.under (and_parts _ _ (and_parts _ _ part).0).1;
       };
       locals = locals;
       stack = subst (λ ms. Fitting (above xs ms) (above q.stack q.tries)) (sym tries) (above_fit (parent_of notes) q.tries stack);
       tries = subst (λ ms. TriesFit c notes (opens xs ms) (opens q.stack q.tries)) (sym tries) (opens_fit c notes q.tries xs q.stack stack);
-      defers = numbers_are ds q.defers (both _ _ part).1;
+      defers = numbers_are ds q.defers (and_parts _ _ part).1;
     }
 
     pub record Next (g : Goes) : Type 0 where
@@ -204,11 +211,11 @@ module _ (c : Code) (t : Table) where
         by_spot (Some q) h e = record {
           spot = q;
           there = h;
-          func = eqn_is p.func q.func (both _ _ (both _ _ (both _ _ (both _ _ e).0).0).0).0;
-          part = (both _ _ (both _ _ (both _ _ (both _ _ e).0).0).0).1;
-          tries = (both _ _ (both _ _ (both _ _ e).0).0).1;
-          stack = each_made g.stack q.stack (both _ _ (both _ _ e).0).1;
-          locals = each_made g.locals q.locals (both _ _ e).1;
+          func = eqn_is p.func q.func (and_parts _ _ (and_parts _ _ (and_parts _ _ (and_parts _ _ e).0).0).0).0;
+          part = (and_parts _ _ (and_parts _ _ (and_parts _ _ (and_parts _ _ e).0).0).0).1;
+          tries = (and_parts _ _ (and_parts _ _ (and_parts _ _ e).0).0).1;
+          stack = each_made g.stack q.stack (and_parts _ _ (and_parts _ _ e).0).1;
+          locals = each_made g.locals q.locals (and_parts _ _ e).1;
         }
 
     -- what an operation pushes on what it leaves

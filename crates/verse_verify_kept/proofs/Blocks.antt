@@ -1,5 +1,5 @@
 -- Deferred blocks: a Leave runs them, their end comes back or goes down.
-use Rattle.std.proofs.Common.{◌≡◌, ℕ, zero, suc, ◌+◌, ◌≤◌, ◌<◌, length, List, [], ◌∷◌, ◌++◌, Some, Bool, true, false}
+use Rattle.std.proofs.Common.{◌≡◌, ℕ, suc, ◌+◌, ◌≤◌, ◌<◌, length, List, [], ◌∷◌, ◌++◌, Some, Bool, true}
 use Rattle.std.proofs.Common.{subst, ap, arith, ◌∙◌, refl, sym}
 use Rattle.std.specs.Prelude.{slice_get, not}
 use Rattle.std.proofs.lemmas.Option.{same_Some}
@@ -9,6 +9,7 @@ use Rattle.verse_value.specs.Val.{Val}
 use Rattle.verse_value.specs.declared.runs.Ending.TheVariants as ending
 use Rattle.verse_meaning_state.specs.State.{State, spending}
 use Rattle.verse_meaning_state.specs.Waits.{ltn}
+use Rattle.verse_meaning_state.proofs.Numbers.{ltn_yes, ltn_no}
 use Rattle.verse_code_machine.specs.Tasks.{Life, Handler, Frame, Note, to, gone, Who, World, Step, Next, Over, machine}
 use Rattle.verse_code_machine.specs.Frames.{only_where, fits, goes, kept_defers, kept_noted}
 use Rattle.verse_code_machine.specs.Acts.{frame, on_defer, leaves, act}
@@ -26,28 +27,6 @@ use Rattle.verse_verify_kept.proofs.Places.{same_in, fits_there, handles, moves,
 use Rattle.verse_verify_kept.proofs.Places.{kept_noted_most, kept_defers_most, Blocked, comes_back, comes_down, blocks}
 use Rattle.verse_verify_kept.proofs.Going.{Good, next, only_good, goes_at, goes_to, giver_same, Rest, Fresh}
 use Rattle.verse_verify_kept.proofs.Acts.{spends, stepped_fresh}
-
-not_less : (a b : ℕ) → b ≤ a → ltn a b ≡ false
-not_less a zero h = refl
-not_less zero (suc b) h = elim (no_room b h) [ ]
-  where
-    no_room : (b : ℕ) → suc b ≤ 0 → ⊥
-    no_room b h = omega (arith, h)
-not_less (suc a) (suc b) h = not_less a b (lower a b h)
-  where
-    lower : (a b : ℕ) → suc b ≤ suc a → b ≤ a
-    lower a b h = omega (arith, h)
-
-is_less : (a b : ℕ) → a < b → ltn a b ≡ true
-is_less a zero h = elim (no_room a h) [ ]
-  where
-    no_room : (a : ℕ) → a < 0 → ⊥
-    no_room a h = omega (arith, h)
-is_less zero (suc b) h = refl
-is_less (suc a) (suc b) h = is_less a b (lower a b h)
-  where
-    lower : (a b : ℕ) → suc a < suc b → a < b
-    lower a b h = omega (arith, h)
 
 module _ (c : Code) (n : Notes) (bottom : Bottom c n) (ok : Known c n) (w : Who) (x : World) where
   -- what holds where the last frame of a cancelled task has gone
@@ -133,7 +112,7 @@ module _ (c : Code) (n : Notes) (bottom : Bottom c n) (ok : Known c n) (w : Who)
       All c n t above p.stack → Keeps c n p m → Runs c n p pc m fs ds →
       Good c n bottom (act c (o.Leave m) w x s g ls (above ++ more) pc hs bl)
   left_runs {m = m} {ds = ds} g ls above more hs op live k a b keeps runs =
-      only_good c n bottom s _ (ap not (not_less (length g.defers) m at_most)) (only_good c n bottom s _ (ap not (not_less m (kept_defers
+      only_good c n bottom s _ (ap not (ltn_no (length g.defers) m at_most)) (only_good c n bottom s _ (ap not (ltn_no m (kept_defers
       hs) (kept_defers_most c n m k keeps (at_least runs)))) (runs_good runs a k count))
     where
       count : length g.defers ≡ p.under + length ds
@@ -162,10 +141,10 @@ module _ (c : Code) (n : Notes) (bottom : Bottom c n) (ok : Known c n) (w : Who)
           length g.defers ≡ p.under + length ds →
           Good c n bottom (leaves (ltn m (length g.defers)) w x s g ls (above ++ more) pc hs bl)
       runs_good {ds = ds} (runs_no e l) a k sum =
-          on_leaves (not_less m (length g.defers) (omega (arith, e, sum))) (goes_to c n bottom ok w x s s g ls above more hs bl t l a b k
+          on_leaves (ltn_no m (length g.defers) (omega (arith, e, sum))) (goes_to c n bottom ok w x s s g ls above more hs bl t l a b k
           z f)
       runs_good (runs_so {e = e} {point = point} {ds = ds} lt en nm fit rs) a k sum =
-          on_leaves (is_less m (length g.defers) (omega (arith, lt, sum))) (with_base (bases c n k))
+          on_leaves (ltn_yes m (length g.defers) (omega (arith, lt, sum))) (with_base (bases c n k))
         where
           with_base : Based (e ∷ ds) g.defers → Good c n bottom (leaves true w x s g ls (above ++ more) pc hs bl)
           with_base (based base h) =
@@ -234,23 +213,27 @@ module _ (c : Code) (n : Notes) (bottom : Bottom c n) (ok : Known c n) (w : Who)
                   n p point en.func en.arm) inner)
 
   -- the end of a deferred block
-  pub block_ends : (clears : Clears c n bottom ok w x (λ s. cleared x.ups x.pre x.post x.trees s) s t) (any : Gives_any c n bottom ok w x) {all : List ℕ} {ns : List Note} (born : ℕ) (ls above more : List Val) (hs : List Handler) →
+  pub block_ends : (clears : Clears c n bottom ok w x (λ s. cleared x.ups x.pre x.post x.trees s) s t) (any : Gives_any c n bottom ok w x)
+      {all : List ℕ} {ns : List Note} (born : ℕ) (ls above more : List Val) (hs : List Handler) →
       Beneath c n (Rest c n bottom w x s (giver n p) bl) t p p.defers ls more hs all ns → All c n t ls p.locals → All c n t above p.stack →
       Passes c n pc p o.DeferEnd → Good c n bottom (act c o.DeferEnd w x s (record { born = born; defers = all; noted = ns }) ls (above ++
       more) pc hs bl)
-  block_ends clears any {all = all} {ns = ns} born ls above more hs k a b (r.of_defer_end {e = e} {point = point} block tries stack defers live
+  block_ends clears any {all = all} {ns = ns} born ls above more hs k a b
+      (r.of_defer_end {e = e} {point = point} block tries stack defers live
       fit) = ending (subst (All c n t above) stack b) (blocks c n k block tries)
     where
-      ending : {above more : List Val} {hs : List Handler} {ns : List Note} → All c n t above [] → Blocked c n (Rest c n bottom w x s (giver n
+      ending : {above more : List Val} {hs : List Handler} {ns : List Note} → All c n t above [] →
+          Blocked c n (Rest c n bottom w x s (giver n
           p) bl) t p p.defers ls more hs all ns → Good c n bottom (act c o.DeferEnd w x s (record {
             born = born;
             defers = all;
             noted = ns;
           }) ls (above ++ more) pc hs bl)
       ending {hs = hs} are_no (comes_back {i = i} {ns = ns} y kept inner) =
-          only_good c n bottom s _ (is_less (kept_noted hs) (suc (length ns)) (more_room (kept_noted hs) (length ns) (kept_noted_most c n
+          only_good c n bottom s _ (ltn_yes (kept_noted hs) (suc (length ns)) (more_room (kept_noted hs) (length ns) (kept_noted_most c n
           inner))) (subst (λ st. Good c n bottom (goes w x s s (record { born = born; defers = all; noted = ns }) ls st i hs bl)) (sym
-          y.back.split) (goes_at c n bottom ok w x s s (record { born = born; defers = all; noted = ns }) ls y.back.above y.back.more i hs bl
+          y.back.split)
+          (goes_at c n bottom ok w x s s (record { born = born; defers = all; noted = ns }) ls y.back.above y.back.more i hs bl
           t y.back.point y.back.locals y.back.left y.back.live y.back.own (are_up (parent_of n) a (subst (λ fs. Each c n p.locals fs)
           (ap (λ (q : Point). q.locals) same ∙ y.locals) fit)) (are_more (parent_of n) y.grows.grows y.back.stack) (subst (λ all.
           Beneath c n (Rest c n bottom w x s (giver n y.back.point) bl) t y.back.point y.back.left ls y.back.more hs all ns) (sym no_more)
@@ -267,7 +250,8 @@ module _ (c : Code) (n : Notes) (bottom : Bottom c n) (ok : Known c n) (w : Who)
           no_more : all ≡ y.base
           no_more = y.defers ∙ ap (λ ds. ds ++ y.base) defers
       ending {more = more} {hs = hs} are_no (comes_down {u = u} none y g r) =
-          only_good c n bottom s _ (ap (λ hs. ltn (kept_noted hs) 1) none) (clears_good c n bottom ok w x (λ s. cleared x.ups x.pre x.post x.trees s) any (frame (record {
+          only_good c n bottom s _ (ap (λ hs. ltn (kept_noted hs) 1) none)
+          (clears_good c n bottom ok w x (λ s. cleared x.ups x.pre x.post x.trees s) any (frame (record {
             born = born;
             defers = all;
             noted = [];
@@ -277,7 +261,8 @@ module _ (c : Code) (n : Notes) (bottom : Bottom c n) (ok : Known c n) (w : Who)
               plain = y.plain;
               sorts = point.locals;
               locals = are_up (parent_of n) a fit;
-              ready = subst (Ready c n y.from point.locals) (sym (y.defers ∙ ap (λ ds. ds ++ y.base) defers)) (subst (λ (q : Point). Ready c n
+              ready =
+                  subst (Ready c n y.from point.locals) (sym (y.defers ∙ ap (λ ds. ds ++ y.base) defers)) (subst (λ (q : Point). Ready c n
                   y.from q.locals y.base) (sym same) y.ready);
               noted = refl;
             },

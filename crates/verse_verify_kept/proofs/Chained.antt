@@ -3,6 +3,7 @@ use Rattle.std.proofs.Common.{◌≡◌, ℕ, zero, suc, ◌≤◌, length, map,
 use Rattle.std.proofs.Common.{arith, ◌∙◌}
 use Rattle.std.specs.Prelude.{ℤ, slice_get}
 use Rattle.std.proofs.lemmas.Option.{none-some}
+use Rattle.verse_base.proofs.Facts.{present}
 use Rattle.verse_code.specs.declared.codes.Func.{Func}
 use Rattle.verse_code.specs.declared.codes.Class.{Class}
 use Rattle.verse_code.specs.declared.codes.Code.{Code}
@@ -18,19 +19,6 @@ use Rattle.verse_verify_kept.specs.Rules.{Fit, AllFrom, from_so, Method, method,
 use Rattle.verse_verify_kept.specs.Known.{Called, Known}
 use Rattle.verse_verify_kept.specs.Kept.{All}
 use Rattle.verse_verify_kept.proofs.Whole.{nothing_yet}
-
-present : {A B : Type 0} (xs : List A) (ys : List B) (i : ℕ) (x : A) → length ys ≡ length xs → slice_get xs i ≡ Some x →
-    (y : B) × (slice_get ys i ≡ Some y)
-present [] ys i x e h = elim (none-some _ h) [ ]
-present (x ∷ xs) [] i a e h = elim (no_length e) [ ]
-  where
-    no_length : {k : ℕ} → 0 ≡ suc k → ⊥
-    no_length e = omega (arith, e)
-present (x ∷ xs) (y ∷ ys) zero a e h = (y, refl)
-present (x ∷ xs) (y ∷ ys) (suc i) a e h = present xs ys i a (lower _ _ e) h
-  where
-    lower : (j k : ℕ) → suc j ≡ suc k → j ≡ k
-    lower j k e = omega (arith, e)
 
 module _ (c : Code) (n : Notes) (ok : Verified c n) where
   class_noted : (k : ℕ) (made : Class) → slice_get c.classes k ≡ Some made → (x : ClassNote) × (slice_get n.classes k ≡ Some x)

@@ -12,6 +12,7 @@ use Rattle.verse_value.specs.declared.runs.CellKind.{CellKind}
 use Rattle.verse_meaning_state.specs.State.{State}
 use Rattle.verse_meaning_state.specs.Waits.{eqn}
 use Rattle.verse_meaning_state.specs.Effects.{class_in, class_at}
+use Rattle.verse_meaning_state.proofs.Numbers.{eqn_same}
 use Rattle.verse_code_machine.specs.Tasks.{Life, Handler, Frame, Who, World, Step}
 use Rattle.verse_code_machine.specs.Frames.{on_top, on_there, only_where, fits, enters, taking, classed, method_in, numbered, method_of}
 use Rattle.verse_code_machine.specs.Acts.{frame, act}
@@ -29,7 +30,6 @@ use Rattle.verse_verify_kept.specs.Kept.{giver, Of, All, CellIs, var_is, object_
 use Rattle.verse_verify_kept.specs.Kept.{Beneath, Bottom}
 use Rattle.verse_verify_kept.proofs.Going.{Good, Ends, Rest, Fresh}
 use Rattle.verse_verify_kept.proofs.Acts.{many_good, enter_good}
-use Rattle.verse_verify_kept.proofs.Resting.{eqn_same}
 
 module _ (c : Code) (n : Notes) (t : Typing) where
   obj_same : (a b : ℕ) → sort.obj a ≡ sort.obj b → a ≡ b
@@ -73,7 +73,7 @@ module _ (c : Code) (n : Notes) (bottom : Bottom c n) (ok : Known c n) (ends : E
   called_there {m = m} {j = j} {heir = heir} i h q count =
       ap (λ class. taking (suc j) (classed c m class)) (class_there c n t i z h) ∙ (ap (λ k. taking (suc j) (method_in c.functions m k))
       q.is_class ∙ (ap (λ f. taking (suc j) (numbered c.functions f)) q.is_method ∙ (ap (λ f. taking (suc j) f) q.is_func ∙ (ap (λ b. cond b
-      (Some q.func) None) (ap (λ k. eqn k (suc j)) count ∙ eqn_same c n ok (suc j))))))
+      (Some q.func) None) (ap (λ k. eqn k (suc j)) count ∙ eqn_same (suc j))))))
 
   pub weaker : {i : ℕ} {d e : Sort} {st : List Sort} → r.Fit c n d e → To c n p (e ∷ st) i → To c n p (d ∷ st) i
   weaker {d = d} {e = e} {st = st} fit l = record {

@@ -1,7 +1,8 @@
 -- The operands of a valid code name what is there.
-use Rattle.std.proofs.Common.{◌≡◌, ℕ, zero, suc, ◌<◌, length, List, [], ◌∷◌, Some, Bool, true, false, nat_lt, refl, arith}
+use Rattle.std.proofs.Common.{◌≡◌, ℕ, length, Some, Bool, true, false, nat_lt}
 use Rattle.std.specs.Prelude.{slice_get, ◌&&◌}
 use Rattle.std.proofs.lemmas.Bool.{ltb-true}
+use Rattle.verse_base.proofs.Facts.{get_within}
 use Rattle.verse_code.specs.declared.operations.Op.{Op}
 use Rattle.verse_code.specs.declared.operations.Op.TheVariants as o
 use Rattle.verse_code.specs.declared.codes.Code.{Code}
@@ -15,20 +16,9 @@ and_right : (a b : Bool) → a && b ≡ true → b ≡ true
 and_right true b e = e
 and_right false b e = cc
 
-element : {A : Type 0} (xs : List A) (i : ℕ) → i < length xs → (x : A) × (slice_get xs i ≡ Some x)
-element [] i h = elim (no_room i h) [ ]
-  where
-    no_room : (i : ℕ) → i < 0 → ⊥
-    no_room i h = omega (arith, h)
-element (x ∷ xs) zero h = (x, refl)
-element (x ∷ xs) (suc i) h = element xs i (lower i (length xs) h)
-  where
-    lower : (i k : ℕ) → suc i < suc k → i < k
-    lower i k h = omega (arith, h)
-
 module _ (c : Code) where
   place : (i : ℕ) → nat_lt i (length c.places) ≡ true → Has (place_at c i)
-  place i e = has (element c.places i (ltb-true i (length c.places) e)).1
+  place i e = has (get_within c.places i (ltb-true i (length c.places) e)).1
 
   names_of : (i : ℕ) (op : Op) → all_suit (sizes_of c) i (operands_of op) ≡ true → Names c op
   names_of i (o.Int j) e = tt
@@ -36,7 +26,7 @@ module _ (c : Code) where
   names_of i o.False e = tt
   names_of i o.True e = tt
   names_of i (o.Char j) e = tt
-  names_of i (o.Text j) e = element c.texts j (ltb-true j (length c.texts) e)
+  names_of i (o.Text j) e = get_within c.texts j (ltb-true j (length c.texts) e)
   names_of i (o.Enum j k) e = tt
   names_of i (o.Get j) e = tt
   names_of i (o.Put j) e = tt

@@ -1,30 +1,28 @@
 -- Where a part ends its parent stands, as parents stand in every run.
-use Rattle.std.proofs.Common.{◌≡◌, ℕ, ◌≤◌, ◌<◌, length, List, [], ◌∷◌, ◌++◌, Option, Bool, true, false, cond, refl, sym, subst, ◌∙◌}
+use Rattle.std.proofs.Common.{◌≡◌, ℕ, ◌≤◌, ◌<◌, length, List, [], ◌∷◌, ◌++◌, Option, Bool, true, false, cond, sym, subst, ◌∙◌}
 use Rattle.std.proofs.Common.{arith}
+use Rattle.std.proofs.lemmas.Bool.{cond_both}
 use Rattle.verse_code.specs.declared.operations.Op.{Op}
 use Rattle.verse_code.specs.declared.operations.Op.TheVariants as o
 use Rattle.verse_code.specs.declared.codes.Code.{Code}
 use Rattle.verse_code_machine.specs.Tasks.{root, part, Who, Task, After, resuming, closing, finishing, Up, clearing, Machine}
 use Rattle.verse_code_machine.specs.Tasks.{same_path, since}
 use Rattle.verse_code_machine.specs.Cancelling.{without}
+use Rattle.verse_code_machine.proofs.Paths.{same_self}
 use Rattle.verse_code_machine_parents.specs.Parents.{whos, HasParent, here, later, Rooted, rooted_root, rooted_part, chain, Follow}
 use Rattle.verse_code_machine_parents.specs.Parents.{Leaving, Tree, running, before_resuming, before_closing, before_finishing}
 use Rattle.verse_code_machine_parents.specs.Parents.{MachineRooted}
-use Rattle.verse_code_machine_parents.proofs.Lists.{cond_with, line_tail, child_longer, since_takes, stays, eqn_same}
+use Rattle.verse_code_machine_parents.proofs.Lists.{line_tail, child_longer, since_takes, stays}
 use Rattle.verse_verify_kept.specs.Notes.{Notes}
 use Rattle.verse_verify_kept.specs.Known.{Known}
 use Rattle.verse_verify_kept.proofs.Resting.{Parented, here as stands_here, later as stands_later}
 use Rattle.verse_verify_kept.proofs.Ending.{Placed}
 use Rattle.verse_verify_kept.proofs.Every.{Parents}
 
-path_same : (a : List ℕ) → same_path a a ≡ true
-path_same [] = refl
-path_same (i ∷ a) = subst (λ b. cond b (same_path a a) false ≡ true) (sym (eqn_same i)) (path_same a)
-
 module _ (c : Code) (n : Notes) (ok : Known c n) where
   parented : {up : List ℕ} {number : ℕ} (ts : List Task) → HasParent up number (whos ts) → Parented c n ok up ts
   parented [] h = elim h [ ]
-  parented {up = up} (t ∷ ts) (here e l) = stands_here (subst (λ a. same_path up a ≡ true) (sym e) (path_same up))
+  parented {up = up} (t ∷ ts) (here e l) = stands_here (subst (λ a. same_path up a ≡ true) (sym e) (same_self up))
   parented (t ∷ ts) (later h) = stands_later (parented ts h)
 
   -- also where others are cancelled
@@ -33,9 +31,9 @@ module _ (c : Code) (n : Notes) (ok : Known c n) where
   parented_without f not [] h = elim h [ ]
   parented_without {up = up} f not (t ∷ ts) (here e l) =
       subst (λ b. Parented c n ok up (cond b (without f ts) (t ∷ without f ts))) (sym (subst (λ a. f a ≡ false) (sym e) not)) (stands_here
-      (subst (λ a. same_path up a ≡ true) (sym e) (path_same up)))
+      (subst (λ a. same_path up a ≡ true) (sym e) (same_self up)))
   parented_without {up = up} f not (t ∷ ts) (later h) =
-      cond_with (f t.thread.who.path) (without f ts) (t ∷ without f ts) (Parented c n ok up) (λ e. parented_without f not ts h) (λ e.
+      cond_both (f t.thread.who.path) (without f ts) (t ∷ without f ts) (Parented c n ok up) (λ e. parented_without f not ts h) (λ e.
       stands_later (parented_without f not ts h))
 
   no_part : {A : Type 0} {entry : Option ℕ} → root entry ≡ part → A

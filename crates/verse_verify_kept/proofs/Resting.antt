@@ -19,6 +19,7 @@ use Rattle.verse_value.specs.Operations.{tuple_of}
 use Rattle.verse_meaning_state.specs.State.{State, Given, Signal, stepped}
 use Rattle.verse_meaning_state.specs.Waits.{Cause, eqn}
 use Rattle.verse_meaning_state.specs.Turns.{Kind, sync, race, rush}
+use Rattle.verse_meaning_state.proofs.Numbers.{eqn_is, eqn_same}
 use Rattle.verse_code_machine.specs.Tasks.{Handler, Note, Frame, root, part, Who, Part, did, runs, group, Thread, Task, After}
 use Rattle.verse_code_machine.specs.Tasks.{resuming, closing, finishing, Up, clearing, Trees, World, world, Step}
 use Rattle.verse_code_machine.specs.Tasks.{Next, Turn, machine, life_from, child_named, onto, among, starts, beneath_arms}
@@ -297,10 +298,6 @@ module _ (c : Code) (n : Notes) where
         either None e = h _ refl (groups refl ps (rush_gives f) r)
         either (Some v) e = resumes_good a y v q r (first_is v ps f e)
 
-    pub eqn_same : (i : ℕ) → eqn i i ≡ true
-    eqn_same zero = refl
-    eqn_same (suc i) = eqn_same i
-
     eqn_less : (i m : ℕ) → suc m ≤ i → eqn i m ≡ false
     eqn_less zero m h = elim (no_room m h) [ ]
       where
@@ -311,12 +308,6 @@ module _ (c : Code) (n : Notes) where
       where
         lower : (i m : ℕ) → suc (suc m) ≤ suc i → suc m ≤ i
         lower i m h = omega (arith, h)
-
-    pub eqn_is : (i m : ℕ) → eqn i m ≡ true → i ≡ m
-    eqn_is zero zero e = refl
-    eqn_is zero (suc m) e = no_true e
-    eqn_is (suc i) zero e = no_true e
-    eqn_is (suc i) (suc m) e = ap suc (eqn_is i m e)
 
     -- a task has begun
     abbrev pub with_part : Typing → ℕ → Sort → Typing
@@ -440,10 +431,6 @@ module _ (c : Code) (n : Notes) where
         grouped_good a k p y stands q r ps (subst (λ rs. KindGives c n k rs a) (append-nil rs) g) h
     next_good a k p y stands q r ps (labels_so st labs) g h = arm_begins a k p y stands q r ps st labs g
 
-    pub cond_with : {A : Type 0} (b : Bool) (x y : A) (P : A → Type 0) → (b ≡ true → P x) → (b ≡ false → P y) → P (cond b x y)
-    cond_with true x y P f g = f refl
-    cond_with false x y P f g = g refl
-
     pub calm_for : {t : Typing} {w x : Who} {pre post : List Task} {us vs : List Up} {trees : Trees} {s : State} →
         Calm t w pre post us trees s → UpsAre c n t x vs → Calm t x pre post vs trees s
     calm_for k ups = record { store = k.store; fresh = k.fresh; clocked = k.clocked; ups = ups; tasked = k.tasked }
@@ -561,7 +548,7 @@ module _ (c : Code) (n : Notes) where
     did_parts m w e i parts_no = parts_no
     did_parts m w e i (part_did j r) = part_did j (did_parts m w e i r)
     did_parts {t = t} {b = b} m w e i (part_runs {i = k} {gs = gs} {a = a} {b = d} {xs = xs} h f r) =
-        cond_with (eqn m k) (did w ∷ gs) (runs k ∷ with_did m w gs) (λ gs. PartsAre c n t gs (a ∷ xs))
+        cond_both (eqn m k) (did w ∷ gs) (runs k ∷ with_did m w gs) (λ gs. PartsAre c n t gs (a ∷ xs))
         (λ same. part_did (is_up (parent_of n) (subst (Of c n t w)
         (same_Some _ _ (sym e ∙ subst (λ k. t.parts k ≡ Some d) (sym (eqn_is m k same)) h)) i) f) r)
         (λ other. part_runs h f (did_parts m w e i r))
@@ -601,7 +588,7 @@ module _ (c : Code) (n : Notes) where
         Parented up post → t.parts m ≡ Some b → Of c n t u b → TasksAre c n t pre → TasksAre c n t post → Calm t w [] [] [] trees s →
         Fine_step (climbs up m u pre post trees s)
     climbs_good {t = t} {w = w} {pre = pre} {trees = trees} {s = s} up m u there e i ps (tasks_so {x = x} {xs = xs} j r) q =
-        cond_with (same_path up x.thread.who.path) (joined m u x.rest x pre xs trees s) (climbs up m u (x ∷ pre) xs trees s) Fine_step (λ
+        cond_both (same_path up x.thread.who.path) (joined m u x.rest x pre xs trees s) (climbs up m u (x ∷ pre) xs trees s) Fine_step (λ
         same. joined_good m u x e i j (record {
           store = q.store;
           fresh = q.fresh;

@@ -3,11 +3,13 @@ use Rattle.std.proofs.Common.{◌≡◌, ℕ, zero, suc, List, [], ◌∷◌, �
 use Rattle.std.proofs.Common.{ap}
 use Rattle.std.proofs.Common.{◌∙◌}
 use Rattle.std.proofs.lemmas.Option.{same_Some, none-some}
+use Rattle.std.proofs.lemmas.Bool.{cond_both}
 use Rattle.verse_code.specs.declared.codes.Code.{Code}
 use Rattle.verse_value.specs.Val.{Val}
 use Rattle.verse_meaning_state.specs.State.{State, Given, Signal}
 use Rattle.verse_meaning_state.specs.Waits.{Wait, Cause, eqn, ltn, nth, has, first_signal, given_by, due_of, Due, sooner_of}
 use Rattle.verse_meaning_state.specs.Waits.{least}
+use Rattle.verse_meaning_state.proofs.Numbers.{eqn_is, eqn_same}
 use Rattle.verse_code_machine.specs.Tasks.{root, Who, Task, Trees, world, waits_with, waits_of, tree_waits}
 use Rattle.verse_code_machine.specs.Ends.{resumes, is_asleep, woken, woken_in}
 use Rattle.verse_sorts.specs.Sorts as sort
@@ -22,7 +24,7 @@ use Rattle.verse_verify_kept.specs.Others.{tasks_so, TreesAre, trees_no, trees_s
 use Rattle.verse_verify_kept.specs.Others.{SignalsAre, signals_no, signals_so, Clocked, World_is}
 use Rattle.verse_verify_kept.proofs.Going.{Fresh}
 use Rattle.verse_verify_kept.proofs.Worlds.{trees_joined}
-use Rattle.verse_verify_kept.proofs.Resting.{Fine_step, Calm, resumes_good, cond_with, eqn_is, eqn_same}
+use Rattle.verse_verify_kept.proofs.Resting.{Fine_step, Calm, resumes_good}
 
 module _ (c : Code) (n : Notes) (ok : Known c n) where
   -- a value that a wait of a number may get
@@ -45,11 +47,11 @@ module _ (c : Code) (n : Notes) (ok : Known c n) where
       first_signal gs e i ≡ Some g → Of c n t g.value b
   signal_got e i g signals_no h k = elim (none-some _ k) [ ]
   signal_got {t = t} {b = b} e i g (signals_so {g = q} {gs = gs} {a = a} p j r) h k =
-      cond_with c n ok (eqn e q.event) (cond (ltn i q.next) (Some q.given) (first_signal gs e i)) (first_signal gs e i) (λ m. m ≡ Some g →
-      Of c n t g.value b) (λ same. cond_with c n ok (ltn i q.next) (Some q.given) (first_signal gs e i) (λ m. m ≡ Some g → Of c n t g.value
+      cond_both (eqn e q.event) (cond (ltn i q.next) (Some q.given) (first_signal gs e i)) (first_signal gs e i) (λ m. m ≡ Some g →
+      Of c n t g.value b) (λ same. cond_both (ltn i q.next) (Some q.given) (first_signal gs e i) (λ m. m ≡ Some g → Of c n t g.value
       b) (λ _. λ k. subst (λ (g : Given). Of c n t g.value b) (same_Some _ _ k)
       (subst (Of c n t q.given.value) (event_same a b
-      (same_Some _ _ (sym p ∙ subst (λ e. at t.cells e ≡ Some (sort.event b)) (eqn_is c n ok e q.event same) h))) j))
+      (same_Some _ _ (sym p ∙ subst (λ e. at t.cells e ≡ Some (sort.event b)) (eqn_is e q.event same) h))) j))
       (λ _. λ k. signal_got e i g r h k)) (λ other. λ k. signal_got e i g r h k) k
 
   due_got : {t : Typing} (s : State) {cause : Cause} {a : Sort} (i : ℕ) (g : Given) → Clocked c n t s.clock.results s.clock.signals
@@ -70,10 +72,10 @@ module _ (c : Code) (n : Notes) (ok : Known c n) where
   Dues t ws (Some d) = (has d.number ws ≡ true) × Gets t d.number d.given.value
 
   has_more : (i : ℕ) (w : Wait) (ws : List Wait) → has i ws ≡ true → has i (w ∷ ws) ≡ true
-  has_more i w ws e = cond_with c n ok (eqn i w.number) true (has i ws) (λ b. b ≡ true) (λ _. refl) (λ _. e)
+  has_more i w ws e = cond_both (eqn i w.number) true (has i ws) (λ b. b ≡ true) (λ _. refl) (λ _. e)
 
   has_this : (w : Wait) (ws : List Wait) → has w.number (w ∷ ws) ≡ true
-  has_this w ws = ap (λ b. cond b true (has w.number ws)) (eqn_same c n ok w.number)
+  has_this w ws = ap (λ b. cond b true (has w.number ws)) (eqn_same w.number)
 
   sooner_has : {t : Typing} (ws : List Wait) (w : Wait) (m : Option Given) (o : Option Due) → ((g : Given) → m ≡ Some g → Gets t w.number
       g.value) → Dues t ws o → Dues t (w ∷ ws) (sooner_of w.number m o)
@@ -81,8 +83,8 @@ module _ (c : Code) (n : Notes) (ok : Known c n) where
   sooner_has ws w None (Some q) f d = (has_more q.number w ws d.0, d.1)
   sooner_has ws w (Some g) None f d = (has_this w ws, f g refl)
   sooner_has {t = t} ws w (Some g) (Some q) f d =
-      cond_with c n ok (nat_lt q.given.moment g.moment) (Some q) _ (Dues t (w ∷ ws)) (λ _. old) (λ _. cond_with c n ok (nat_lt g.moment
-      q.given.moment) (Some (record { number = w.number; given = g })) _ (Dues t (w ∷ ws)) (λ _. new) (λ _. cond_with c n ok (nat_lt
+      cond_both (nat_lt q.given.moment g.moment) (Some q) _ (Dues t (w ∷ ws)) (λ _. old) (λ _. cond_both (nat_lt g.moment
+      q.given.moment) (Some (record { number = w.number; given = g })) _ (Dues t (w ∷ ws)) (λ _. new) (λ _. cond_both (nat_lt
       q.number w.number) (Some q) (Some (record { number = w.number; given = g })) (Dues t (w ∷ ws)) (λ _. old) (λ _. new)))
     where
       old : (has q.number (w ∷ ws) ≡ true) × Gets t q.number q.given.value
@@ -125,14 +127,14 @@ module _ (c : Code) (n : Notes) (ok : Known c n) where
   woken_good i u g ps tasks_no e q = no_true e
   woken_good {t = t} {pre = pre} {trees = trees} {s = s} i u g ps (tasks_so {x = y} {xs = xs} (sleeps {i = j} {cause = cause} {a = a} e h k
       r) rs) f q =
-      cond_with c n ok (is_asleep i y.rest) (resumes y.thread u (world pre xs [] trees) s) (woken i u (y ∷ pre) xs trees s) (Fine_step c n)
+      cond_both (is_asleep i y.rest) (resumes y.thread u (world pre xs [] trees) s) (woken i u (y ∷ pre) xs trees s) (Fine_step c n)
       (λ is. resumes_good c n a y.thread u (record {
         store = q.store;
         fresh = q.fresh;
         clocked = q.clocked;
         ups = ups_no;
         tasked = record { pre_are = ps; post_are = rs; before_are = q.tasked.before_are; behind_are = q.tasked.behind_are };
-      }) r (same_gets g (subst (λ j. at t.waits j ≡ Some a) (sym (eqn_is c n ok i j (subst (λ z. is_asleep i z ≡ true) e is))) h))) (λ not.
+      }) r (same_gets g (subst (λ j. at t.waits j ≡ Some a) (sym (eqn_is i j (subst (λ z. is_asleep i z ≡ true) e is))) h))) (λ not.
       woken_good i u g (tasks_so (sleeps e h k r) ps) rs (later (eqn i j) (subst (λ z. is_asleep i z ≡ false) e not) (subst (λ z. has i
       (waits_with z (waits_of xs)) ≡ true) e f)) q)
     where
@@ -140,7 +142,7 @@ module _ (c : Code) (n : Notes) (ok : Known c n) where
       later true e f = no_true (sym e)
       later false e f = f
   woken_good {pre = pre} {trees = trees} {s = s} i u g ps (tasks_so {x = y} {xs = xs} (groups e a b r) rs) f q =
-      cond_with c n ok (is_asleep i y.rest) (resumes y.thread u (world pre xs [] trees) s) (woken i u (y ∷ pre) xs trees s) (Fine_step c n)
+      cond_both (is_asleep i y.rest) (resumes y.thread u (world pre xs [] trees) s) (woken i u (y ∷ pre) xs trees s) (Fine_step c n)
       (λ is. no_true (subst (λ z. is_asleep i z ≡ true) e is)) (λ not. woken_good i u g (tasks_so (groups e a b r) ps) rs (subst (λ z. has i
       (waits_with z (waits_of xs)) ≡ true) e f) q)
 
@@ -159,7 +161,7 @@ module _ (c : Code) (n : Notes) (ok : Known c n) where
       Clocked c n t s.clock.results s.clock.signals s.clock.next → Fine_step c n (woken_in i u before behind s)
   woken_in_good s i u before [] g bs rs e z f k = no_true e
   woken_in_good s i u before (ts ∷ behind) g bs (trees_so j rs) e z f k =
-      cond_with c n ok (has i (waits_of ts)) (woken i u [] ts (record { before = before; behind = behind }) s) (woken_in i u (before ++ ts ∷
+      cond_both (has i (waits_of ts)) (woken i u [] ts (record { before = before; behind = behind }) s) (woken_in i u (before ++ ts ∷
       []) behind s) (Fine_step c n) (λ is. woken_good i u g tasks_no j is (record {
         store = z;
         fresh = f;

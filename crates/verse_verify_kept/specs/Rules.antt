@@ -8,7 +8,7 @@ use Rattle.verse_code.specs.declared.codes.Func.{Func}
 use Rattle.verse_code.specs.declared.codes.Class.{Class}
 use Rattle.verse_code.specs.declared.codes.Code.{Code}
 use Rattle.verse_sorts.specs.Sorts as s
-use Rattle.verse_sorts.specs.Sorts.{Sort, Sorts, Inherits, Fits, IsKey}
+use Rattle.verse_sorts.specs.Sorts.{Sort, IsKnown, Sorts, Inherits, Fits, IsKey}
 use Rattle.verse_sorts.specs.Typing.{at, AllFit}
 use Rattle.verse_code_machine.specs.Frames.{put}
 use Rattle.verse_verify_kept.specs.Notes.{ClassNote, FuncNote, Open, Point, Notes, parent_of}
@@ -34,11 +34,6 @@ pub data Pops : ℕ → List Sort → List Sort → List Sort → List Sort → 
 pub data AnyNever : List Sort → Type 0 where
   first_never : {xs : List Sort} → AnyNever (s.never ∷ xs)
   later_never : {a : Sort} {xs : List Sort} → AnyNever xs → AnyNever (a ∷ xs)
-
--- what may be read of a local
-abbrev pub IsRead : Sort → Type 0
-IsRead s.none = ⊥
-IsRead a = Unit {0}
 
 abbrev pub nones : ℕ → List Sort
 nones zero = []
@@ -239,7 +234,7 @@ module _ (c : Code) (n : Notes) where
     of_char : {k : ℕ} → To p (s.char ∷ p.stack) (suc i) → Passes i p (o.Char k)
     of_text : {k : ℕ} → To p (s.list s.char ∷ p.stack) (suc i) → Passes i p (o.Text k)
     of_enum : {e k : ℕ} → To p (s.enum e ∷ p.stack) (suc i) → Passes i p (o.Enum e k)
-    of_get : {l : ℕ} {a : Sort} → at p.locals l ≡ Some a → IsRead a → To p (a ∷ p.stack) (suc i) →
+    of_get : {l : ℕ} {a : Sort} → at p.locals l ≡ Some a → IsKnown a → To p (a ∷ p.stack) (suc i) →
         Passes i p (o.Get l)
     of_put : {l : ℕ} {a : Sort} {st ls : List Sort} → p.stack ≡ a ∷ st →
         put p.locals l a ≡ Some ls → Quiet l (names p) → Leads p ls st p.tries p.defers (suc i) →

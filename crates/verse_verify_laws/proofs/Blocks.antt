@@ -3,12 +3,13 @@ use Rattle.std.proofs.Common.{◌≡◌, ℕ, suc, ◌+◌, ◌≤◌, ◌<◌, 
 use Rattle.std.proofs.Common.{cond}
 use Rattle.std.proofs.Common.{refl, sym, subst, ap, arith, ◌∙◌}
 use Rattle.std.specs.Prelude.{not, nat_lt}
-use Rattle.std.proofs.lemmas.Bool.{ltb-true, ltb-false}
+use Rattle.std.proofs.lemmas.Bool.{ltb-true, ltb-false, and_parts, not-true}
 use Rattle.verse_code.specs.declared.operations.Op.{Op}
 use Rattle.verse_code.specs.declared.operations.Op.TheVariants as o
 use Rattle.verse_code.specs.declared.codes.Code.{Code}
 use Rattle.verse_meaning_state.specs.Waits.{eqn, ltn}
-use Rattle.verse_code_machine_parents.proofs.Lists.{no_both, eqn_is, eqn_same}
+use Rattle.verse_meaning_state.proofs.Numbers.{eqn_is, ltn_is_not, eqn_same}
+use Rattle.verse_code_machine_parents.proofs.Lists.{no_both}
 use Rattle.verse_sorts.specs.Sorts.{Sort}
 use Rattle.verse_sorts.specs.Typing.{AllFit, fit_no}
 use Rattle.verse_verify_kept.specs.Notes.{Point, Notes, parent_of, point_at, names}
@@ -18,14 +19,13 @@ use Rattle.verse_verify_faults.specs.Stepping as step
 use Rattle.verse_verify_faults.specs.Stepping.{Made, is, list_of, one_of, Stepped, Goes, inner, begins_arm}
 use Rattle.verse_verify_faults.specs.Stepping.{begins_block, leads, goes_on, to, spot_locals}
 use Rattle.verse_verify_faults.specs.Faults.{all_suit, suits, tries_of, keeps, try_count}
-use Rattle.verse_verify_faults.proofs.Fitting.{both}
 use Rattle.verse_verify_faults.proofs.Leading as leading
 use Rattle.verse_verify_faults.proofs.Leading.{notes, Becomes, Become, become_is, Next, next_in, leads_with, marks_are}
 use Rattle.verse_verify_faults.proofs.Leading.{numbers_are, number_is, arm_is}
+use Rattle.verse_verify_faults.proofs.Fitting.{some_is}
 use Rattle.verse_verify_laws.proofs.Steps.{Fine, led}
 use Rattle.verse_verify_laws.proofs.Holding as holding
-use Rattle.verse_verify_laws.proofs.Holding.{may_fail_is, may_wait_is, quiet_in, none_is, nil_is, some_is, not_is}
-use Rattle.verse_verify_laws.proofs.Holding.{not_less}
+use Rattle.verse_verify_laws.proofs.Holding.{may_fail_is, may_wait_is, quiet_in, none_is, nil_is}
 use Rattle.verse_verify_laws.proofs.Going.{wrote}
 
 empty_fit : {up : ℕ → Option ℕ} {ys : List Sort} → AllFit up [] ys → ys ≡ []
@@ -68,14 +68,14 @@ module _ (c : Code) (t : Table) (p : Spot) (i : ℕ) (ev : even (length p.stack)
         entry = record {
           live = leading.point_there c t e nx.spot nx.there (holding.no_marks c t nx.spot tries);
           func = nx.func;
-          arm = arm_is p.arm nx.spot.arm (both _ _ (both _ _ (both _ _ (both _ _ nx.part).0).0).0).0;
-          block = sym (number_is (Some e) nx.spot.block (both _ _ (both _ _ (both _ _ (both _ _ nx.part).0).0).0).1);
+          arm = arm_is p.arm nx.spot.arm (and_parts _ _ (and_parts _ _ (and_parts _ _ (and_parts _ _ nx.part).0).0).0).0;
+          block = sym (number_is (Some e) nx.spot.block (and_parts _ _ (and_parts _ _ (and_parts _ _ (and_parts _ _ nx.part).0).0).0).1);
           stack = holding.cut_bare c t nx.spot stack tries;
           tries = holding.opens_bare c t nx.spot tries;
-          defers = nil_is nx.spot.defers (both _ _ nx.part).1;
-          under = sym (eqn_is (p.under + count) nx.spot.under (both _ _ (both _ _ nx.part).0).1);
+          defers = nil_is nx.spot.defers (and_parts _ _ nx.part).1;
+          under = sym (eqn_is (p.under + count) nx.spot.under (and_parts _ _ (and_parts _ _ nx.part).0).1);
         };
-        same = holding.names_are c t p ∙ numbers_are (tries_of c t p) nx.spot.outer (both _ _ (both _ _ (both _ _
+        same = holding.names_are c t p ∙ numbers_are (tries_of c t p) nx.spot.outer (and_parts _ _ (and_parts _ _ (and_parts _ _
             nx.part).0).0).1;
         locals = subst (λ xs. AllFit (parent_of N) xs nx.spot.locals) (become_is c t ls nx.locals.become) nx.locals.fit;
       }
@@ -92,12 +92,12 @@ module _ (c : Code) (t : Table) (p : Spot) (i : ℕ) (ev : even (length p.stack)
   pub defer_passes : {l : ℕ} → Done (o.Defer l) → Passed (o.Defer l)
   defer_passes f =
       let k = led c t p i _ f in
-      let b = block_at (suc i) (length p.defers) p.locals (both _ _ k.suit).0 in
-      r.of_defer b.entry b.same b.locals (behind p.locals (both _ _ (both _ _ k.suit).1).0)
+      let b = block_at (suc i) (length p.defers) p.locals (and_parts _ _ k.suit).0 in
+      r.of_defer b.entry b.same b.locals (behind p.locals (and_parts _ _ (and_parts _ _ k.suit).1).0)
 
   leave_runs : (m : ℕ) (ls : List Sort) (ds : List ℕ) → p.under ≤ m → m ≤ p.under + length ds →
       all_suit c t p (step.leaves c t p i m ls ds) ≡ true → r.Runs c N P i m ls ds
-  leave_runs m ls [] from most h = r.runs_no (equal p.under m from most) (behind ls (both _ _ h).0)
+  leave_runs m ls [] from most h = r.runs_no (equal p.under m from most) (behind ls (and_parts _ _ h).0)
     where
       equal : (u m : ℕ) → u ≤ m → m ≤ u + 0 → m ≡ u + 0
       equal u m a b = omega (arith, a, b)
@@ -127,15 +127,15 @@ module _ (c : Code) (t : Table) (p : Spot) (i : ℕ) (ev : even (length p.stack)
           (e ∷ ds) ∷ []) (step.block_at c t p i e (length ds) ls ∷ step.leaves c t p i m behind_block ds)) ≡ true →
           (m ≤ p.under + length ds → all_suit c t p (step.leaves c t p i m behind_block ds) ≡ true →
           r.Runs c N P i m behind_block ds) → r.Runs c N P i m ls (e ∷ ds)
-      by_test true q h go = r.runs_no (eqn_is m (p.under + suc (length ds)) q) (behind ls (both _ _ h).0)
+      by_test true q h go = r.runs_no (eqn_is m (p.under + suc (length ds)) q) (behind ls (and_parts _ _ h).0)
       by_test false q h go =
-          let b = block_at e (length ds) ls (both _ _ h).0 in
+          let b = block_at e (length ds) ls (and_parts _ _ h).0 in
           let less = lower p.under m (length ds) q most in
           r.runs_so less b.entry b.same b.locals (subst (λ (x : Option Spot). r.Runs c N P i m (spot_locals x ls) ds)
-          b.there (go (less_one p.under m (length ds) less) (both _ _ h).1))
+          b.there (go (less_one p.under m (length ds) less) (and_parts _ _ h).1))
 
   try_keeps : (m : ℕ) → not (ltn m (keeps c t p.tries)) ≡ true → r.Keeps c N P m
-  try_keeps m e = by_tries p.tries refl (not_less m (keeps c t p.tries) (not_is (ltn m (keeps c t p.tries)) e))
+  try_keeps m e = by_tries p.tries refl (ltn_is_not m (keeps c t p.tries) (not-true (ltn m (keeps c t p.tries)) e))
     where
       by_tries : (ms : List Mark) → p.tries ≡ ms → keeps c t ms ≤ m → r.Keeps c N P m
       by_tries [] eq l = r.keeps_all (ap (opens p.stack) eq)
@@ -150,9 +150,10 @@ module _ (c : Code) (t : Table) (p : Spot) (i : ℕ) (ev : even (length p.stack)
   pub leave_passes : {m : ℕ} → Done (o.Leave m) → Passed (o.Leave m)
   leave_passes {m = m} f =
       let k = led c t p i _ f in
-      r.of_leave (try_keeps m (both _ _ (both _ _ k.fit).0).0) (leave_runs m p.locals p.defers (not_less m p.under (not_is (ltn
-      m p.under) (both _ _
-      (both _ _ k.fit).0).1)) (not_less (p.under + length p.defers) m (not_is (ltn (p.under + length p.defers) m) (both
+      r.of_leave (try_keeps m (and_parts _ _ (and_parts _ _ k.fit).0).0)
+      (leave_runs m p.locals p.defers (ltn_is_not m p.under (not-true (ltn
+      m p.under) (and_parts _ _
+      (and_parts _ _ k.fit).0).1)) (ltn_is_not (p.under + length p.defers) m (not-true (ltn (p.under + length p.defers) m) (and_parts
       _ _ k.fit).1)) k.suit)
 
   abbrev again : ℕ → Goes
@@ -167,16 +168,16 @@ module _ (c : Code) (t : Table) (p : Spot) (i : ℕ) (ev : even (length p.stack)
   pub defer_end_passes : Done o.DeferEnd → Passed o.DeferEnd
   defer_end_passes f =
       let k = led c t p i _ f in
-      let b = some_is p.block (both _ _ k.parts).0 in
-      let tries = nil_is p.tries (both _ _ k.fit).0 in
-      by_block b.0 b.1 (holding.opens_bare c t p tries) (holding.cut_bare c t p (nil_is p.stack (both _ _ k.fit).1)
-      tries) (nil_is p.defers (both _ _
+      let b = some_is p.block (and_parts _ _ k.parts).0 in
+      let tries = nil_is p.tries (and_parts _ _ k.fit).0 in
+      by_block b.0 b.1 (holding.opens_bare c t p tries) (holding.cut_bare c t p (nil_is p.stack (and_parts _ _ k.fit).1)
+      tries) (nil_is p.defers (and_parts _ _
       k.parts).1) (subst (λ m. all_suit c t p (step.block_again c t p i m) ≡ true) b.1 k.suit)
     where
       by_block : (e : ℕ) → p.block ≡ Some e → opens p.stack p.tries ≡ [] → st ≡ [] → p.defers ≡ [] →
           all_suit c t p (step.block_again c t p i (Some e)) ≡ true → Passed o.DeferEnd
       by_block e eq tries stack defers h =
-          let nx = next_in c t p (again e) (both _ _ h).0 in
+          let nx = next_in c t p (again e) (and_parts _ _ h).0 in
           let none = sym (marks_are [] nx.spot.tries nx.tries) in
           r.of_defer_end eq tries stack defers (leading.point_there c t e nx.spot nx.there (holding.no_marks c t
           nx.spot none)) (subst (λ xs.

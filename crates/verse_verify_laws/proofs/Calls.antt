@@ -3,6 +3,7 @@ use Rattle.std.proofs.Common.{◌≡◌, ℕ, suc, length, List, [], ◌∷◌, 
 use Rattle.std.proofs.Common.{refl, sym, subst}
 use Rattle.std.specs.Prelude.{◌||◌, not, slice_get}
 use Rattle.std.proofs.lemmas.Option.{none-some}
+use Rattle.std.proofs.lemmas.Bool.{and_parts, not-true}
 use Rattle.verse_code.specs.declared.operations.Op.{Op}
 use Rattle.verse_code.specs.declared.operations.Op.TheVariants as o
 use Rattle.verse_code.specs.declared.codes.Class.{Class}
@@ -19,12 +20,11 @@ use Rattle.verse_verify_faults.specs.Stepping as step
 use Rattle.verse_verify_faults.specs.Stepping.{Made, is, list_of, one_of, Stepped, Goes, inner, begins_arm}
 use Rattle.verse_verify_faults.specs.Stepping.{begins_block, leads, goes_on, to}
 use Rattle.verse_verify_faults.specs.Faults.{may_fail, may_wait}
-use Rattle.verse_verify_faults.proofs.Fitting.{both, fit_is, each_fit_is}
+use Rattle.verse_verify_faults.proofs.Fitting.{fit_is, each_fit_is}
 use Rattle.verse_verify_faults.proofs.Leading.{notes}
 use Rattle.verse_verify_laws.proofs.Steps.{Fine, led, needed, there, popped, many}
 use Rattle.verse_verify_laws.proofs.Holding as holding
-use Rattle.verse_verify_laws.proofs.Holding.{may_fail_is, may_wait_is, quiet_in, none_is, nil_is, some_is, not_is}
-use Rattle.verse_verify_laws.proofs.Holding.{not_less}
+use Rattle.verse_verify_laws.proofs.Holding.{may_fail_is, may_wait_is, quiet_in, none_is, nil_is}
 use Rattle.verse_verify_laws.proofs.Going.{pushed_one}
 
 implied : (a b : Bool) → (not a || b) ≡ true → a ≡ true → b ≡ true
@@ -72,7 +72,7 @@ module _ (c : Code) (t : Table) (p : Spot) (i : ℕ) (ev : even (length p.stack)
       let x = many c t p i _ q.it.params st [] _ g.next in
       let n = needed c t p i _ _ x.next in
       let k = led c t p i _ n.next in
-      r.of_spawn (may_wait_is c t p k.waits) q.is g.is x.pops (each_fit_is t.classes x.sorts g.it.params n.is) (not_is
+      r.of_spawn (may_wait_is c t p k.waits) q.is g.is x.pops (each_fit_is t.classes x.sorts g.it.params n.is) (not-true
       g.it.may_fail k.sure)
       (pushed_one c t p i ev k.suit)
 
@@ -131,7 +131,7 @@ module _ (c : Code) (t : Table) (p : Spot) (i : ℕ) (ev : even (length p.stack)
           let l = led c t p i _ z.next in
           r.of_spawn_method (may_wait_is c t p l.waits) ps (method_is d m g.it g.is) (each_fit_is t.classes (s.obj d ∷
           xs) g.it.params z.is)
-          (not_is g.it.may_fail l.sure) (pushed_one c t p i ev l.suit)
+          (not-true g.it.may_fail l.sure) (pushed_one c t p i ev l.suit)
       by_sort s.never xs rest ps f =
           let l = led c t p i _ f in
           r.of_no_spawn_method (may_wait_is c t p l.waits) ps (pushed_one c t p i ev l.suit)
@@ -143,6 +143,6 @@ module _ (c : Code) (t : Table) (p : Spot) (i : ℕ) (ev : even (length p.stack)
       let g = there c t p i _ _ x.next in
       let n = needed c t p i _ _ g.next in
       let l = led c t p i _ n.next in
-      r.of_return x.is (holding.no_tries c t p l.fit) (none_is p.arm (both _ _ (both _ _ l.parts).0).0) (none_is
-      p.block (both _ _ (both _ _
-      l.parts).0).1) (nil_is p.defers (both _ _ l.parts).1) g.is (fit_is t.classes x.top g.it.result n.is)
+      r.of_return x.is (holding.no_tries c t p l.fit) (none_is p.arm (and_parts _ _ (and_parts _ _ l.parts).0).0) (none_is
+      p.block (and_parts _ _ (and_parts _ _
+      l.parts).0).1) (nil_is p.defers (and_parts _ _ l.parts).1) g.is (fit_is t.classes x.top g.it.result n.is)

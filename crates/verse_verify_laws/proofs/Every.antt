@@ -1,9 +1,10 @@
 -- An operation that breaks no rule passes, and each live point is sound.
 use Rattle.std.proofs.Common.{◌≡◌, ℕ, zero, suc, ◌+◌, length, List, [], ◌∷◌, Option, Some, None, Bool, true, false}
-use Rattle.std.proofs.Common.{cond, refl, sym, subst, true≢false, ◌⊎◌, inl, inr}
+use Rattle.std.proofs.Common.{cond, refl, sym, subst, true≢false, inl, inr}
 use Rattle.std.proofs.Common.{arith}
-use Rattle.std.specs.Prelude.{nat_lt, slice_get, ◌&&◌, ◌||◌}
+use Rattle.std.specs.Prelude.{nat_lt, slice_get}
 use Rattle.std.proofs.lemmas.Option.{none-some}
+use Rattle.std.proofs.lemmas.Bool.{and_parts, or_cases}
 use Rattle.verse_code.specs.declared.operations.Op.{Op}
 use Rattle.verse_code.specs.declared.operations.Op.TheVariants as o
 use Rattle.verse_code.specs.declared.codes.Code.{Code}
@@ -35,14 +36,6 @@ cond_first : (b : Bool) (k : ℕ) (x : Option ℕ) → cond b x (Some k) ≡ Non
 cond_first true k x e = (refl, e)
 cond_first false k x e = elim (none-some _ (sym e)) [ ]
 
-both_true : (a b : Bool) → (a && b) ≡ true → (a ≡ true) × (b ≡ true)
-both_true true b e = (refl, e)
-both_true false b e = absurd (true≢false (sym e))
-
-either_true : (a b : Bool) → (a || b) ≡ true → (a ≡ true) ⊎ (b ≡ true)
-either_true true b e = inl refl
-either_true false b e = inr e
-
 never_is : (a : Sort) → is_never a ≡ true → a ≡ s.never
 never_is s.never e = refl
 never_is s.none e = absurd (true≢false (sym e))
@@ -65,7 +58,7 @@ never_is (s.map a b) e = absurd (true≢false (sym e))
 
 never_among : (xs : List Sort) → any_never xs ≡ true → AnyNever xs
 never_among [] e = absurd (true≢false (sym e))
-never_among (x ∷ xs) e = elim (either_true (is_never x) (any_never xs) e) [
+never_among (x ∷ xs) e = elim (or_cases (is_never x) (any_never xs) e) [
   | inl h ↦ subst (λ y. AnyNever (y ∷ xs)) (sym (never_is x h)) first_never
   | inr h ↦ later_never (never_among xs h)
 ]
@@ -194,9 +187,9 @@ module _ (c : Code) (t : Table) where
           cond b (cond (stands c t i p) None (Some 8)) (fault_of c t i p op) ≡ None →
           Lasts c t p i ev × Asked c (notes c t) i (cut p) op
       by_values p ev true h e =
-          let s = both_true (all_around c t i (tries_of c t p)) _ (cond_first (stands c t i p) 8 None e).0 in (
+          let s = and_parts (all_around c t i (tries_of c t p)) _ (cond_first (stands c t i p) 8 None e).0 in (
             record { around = s.0; ready = s.1 },
-            elim (either_true (any_never (above p.stack p.tries)) (any_never p.locals) h) [
+            elim (or_cases (any_never (above p.stack p.tries)) (any_never p.locals) h) [
               | inl d ↦ no_operand (never_among _ d)
               | inr d ↦ no_local (never_among _ d)
             ],

@@ -4,6 +4,7 @@ use Rattle.std.proofs.Common.{refl, sym}
 use Rattle.std.proofs.Common.{subst, ap, arith, ◌∙◌}
 use Rattle.std.proofs.lemmas.Option.{none-some}
 use Rattle.std.proofs.lemmas.List.{length-append}
+use Rattle.std.proofs.lemmas.Bool.{and_parts}
 use Rattle.verse_code.specs.declared.codes.Code.{Code}
 use Rattle.verse_code_machine.specs.Frames.{put, behind}
 use Rattle.verse_sorts.specs.Sorts.{Sort}
@@ -13,7 +14,6 @@ use Rattle.verse_verify_kept.specs.Rules.{Leads, To}
 use Rattle.verse_verify_faults.specs.Spots.{Spot, Table, above, beneath, opens, even, cut}
 use Rattle.verse_verify_faults.specs.Stepping.{Made, is, inner, Goes, to}
 use Rattle.verse_verify_faults.specs.Faults.{of_part, suits, all_suit}
-use Rattle.verse_verify_faults.proofs.Fitting.{both}
 use Rattle.verse_verify_faults.proofs.Cutting.{fit_length, under, beneath_length, above_on, opens_on, even_more}
 use Rattle.verse_verify_faults.proofs.Leading.{notes, marks_are, Becomes, itself, Become, become_so, become_is, Next}
 use Rattle.verse_verify_faults.proofs.Leading.{next_in, leads_with, Pushed}
@@ -165,19 +165,19 @@ module _ (c : Code) (t : Table) where
 
     pub pushed_one : {j : ℕ} {a : Sort} {st : List Sort} → all_suit c t p (to c t p i j (is a ∷ []) st ∷ []) ≡ true →
         To c (notes c t) (cut p) (a ∷ st) j
-    pushed_one e = pushing (both _ _ e).0
+    pushed_one e = pushing (and_parts _ _ e).0
 
     pub bare_one : {j : ℕ} {st : List Sort} → all_suit c t p (to c t p i j [] st ∷ []) ≡ true → To c (notes c t) (cut
         p) st j
-    bare_one e = bare (both _ _ e).0
+    bare_one e = bare (and_parts _ _ e).0
 
     pub made_one : {j : ℕ} {m : Made} {st : List Sort} → all_suit c t p (to c t p i j (m ∷ []) st ∷ []) ≡ true → Pushed
         c t p m st j
-    made_one {j = j} {m = m} {st = st} e = goes_pushed c t p i ev j m st (both _ _ e).0
+    made_one {j = j} {m = m} {st = st} e = goes_pushed c t p i ev j m st (and_parts _ _ e).0
 
     pub wrote_one : {j : ℕ} {ms : List Made} {st : List Sort} → all_suit c t p (record (to c t p i j [] st) {
       locals =
           ms;
     } ∷ []) ≡ true →
         Wrote j ms st p.defers
-    wrote_one e = wrote (both _ _ e).0
+    wrote_one e = wrote (and_parts _ _ e).0

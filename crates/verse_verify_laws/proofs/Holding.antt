@@ -1,16 +1,16 @@
 -- What the tests of V8 and V9 come to: where a failure is taken, where a task may wait, which locals may be written,
 -- which blocks are ready.
-use Rattle.std.proofs.Common.{◌≡◌, ℕ, zero, suc, ◌+◌, ◌≤◌, ◌<◌, length, map, List, [], ◌∷◌, ◌++◌, Option, Some, None}
+use Rattle.std.proofs.Common.{◌≡◌, ℕ, zero, suc, ◌+◌, ◌<◌, length, map, List, [], ◌∷◌, ◌++◌, Option, Some, None}
 use Rattle.std.proofs.Common.{Bool, true, false, cond, refl, sym}
-use Rattle.std.proofs.Common.{subst, ap, ap₂, arith, ◌∙◌}
+use Rattle.std.proofs.Common.{subst, ap, ap₂, ◌∙◌}
 use Rattle.std.specs.Prelude.{◌&&◌, ◌||◌, not, nat_lt, slice_get}
-use Rattle.std.proofs.lemmas.Bool.{ltb-true}
+use Rattle.std.proofs.lemmas.Bool.{ltb-true, and_parts, cond_both}
 use Rattle.std.proofs.lemmas.Option.{none-some}
 use Rattle.verse_code.specs.declared.operations.Op.{Op}
 use Rattle.verse_code.specs.declared.operations.Op.TheVariants as o
 use Rattle.verse_code.specs.declared.codes.Code.{Code}
-use Rattle.verse_meaning_state.specs.Waits.{ltn}
-use Rattle.verse_code_machine_parents.proofs.Lists.{no_both, cond_with, eqn_is}
+use Rattle.verse_meaning_state.proofs.Numbers.{eqn_is}
+use Rattle.verse_code_machine_parents.proofs.Lists.{no_both}
 use Rattle.verse_sorts.specs.Sorts as s
 use Rattle.verse_sorts.specs.Sorts.{Sort}
 use Rattle.verse_sorts.specs.Typing.{at}
@@ -26,7 +26,7 @@ use Rattle.verse_verify_faults.specs.Faults.{ends_with}
 use Rattle.verse_verify_faults.specs.Faults.{entry_fits, func_fails, func_waits, is_around, is_quiet, label_behind}
 use Rattle.verse_verify_faults.specs.Faults.{locals_at, may_fail, may_wait, ready}
 use Rattle.verse_verify_faults.specs.Faults.{tries_of}
-use Rattle.verse_verify_faults.proofs.Fitting.{both, same_is, each_fit_is}
+use Rattle.verse_verify_faults.proofs.Fitting.{same_is, each_fit_is}
 use Rattle.verse_verify_faults.proofs.Leading.{notes, number_is, numbers_are, arm_is, point_there}
 
 pub none_is : {A : Type 0} (m : Option A) → is_none m ≡ true → m ≡ None
@@ -36,22 +36,6 @@ none_is (Some x) e = no_both (sym e)
 pub nil_is : {A : Type 0} (xs : List A) → is_nil xs ≡ true → xs ≡ []
 nil_is [] e = refl
 nil_is (x ∷ xs) e = no_both (sym e)
-
-pub some_is : {A : Type 0} (m : Option A) → not (is_none m) ≡ true → (x : A) × (m ≡ Some x)
-some_is None e = no_both (sym e)
-some_is (Some x) e = (x, refl)
-
-pub not_is : (b : Bool) → not b ≡ true → b ≡ false
-not_is true e = no_both (sym e)
-not_is false e = refl
-
-pub not_less : (a b : ℕ) → ltn a b ≡ false → b ≤ a
-not_less a zero e = omega arith
-not_less zero (suc b) e = no_both e
-not_less (suc a) (suc b) e = up (not_less a b e)
-  where
-    up : b ≤ a → suc b ≤ suc a
-    up l = omega (arith, l)
 
 pub less_than : (a b : ℕ) → nat_lt a b ≡ true → a < b
 less_than a b e = ltb-true a b e
@@ -109,7 +93,8 @@ module _ (c : Code) (t : Table) where
           true →
           MayFail c (notes c t) (cut p)
       by_tries [] is e =
-          by_note (both _ _ (both _ _ e).0).0 (both _ _ (both _ _ e).0).1 (slice_get t.functions p.func) refl (both _ _
+          by_note (and_parts _ _ (and_parts _ _ e).0).0 (and_parts _ _ (and_parts _ _ e).0).1 (slice_get t.functions p.func) refl
+          (and_parts _ _
           e).1
       by_tries (m ∷ ms) is e = in_try (ap (λ ms. opens p.stack ms) is)
 
@@ -117,14 +102,14 @@ module _ (c : Code) (t : Table) where
   no_tries p e = ap (λ ms. opens p.stack ms) (nil_is p.tries e)
 
   pub may_wait_is : (p : Spot) → may_wait c t p ≡ true → MayWait c (notes c t) (cut p)
-  may_wait_is p e = by_note (slice_get t.functions p.func) refl (both _ _ e).1
+  may_wait_is p e = by_note (slice_get t.functions p.func) refl (and_parts _ _ e).1
     where
       by_note : (m : Option FuncNote) → slice_get t.functions p.func ≡ m → func_waits c t m ≡ true → MayWait c (notes c
           t) (cut p)
       by_note None is h = no_both (sym h)
       by_note (Some f) is h = record {
-        tries = no_tries p (both _ _ (both _ _ e).0).0;
-        block = none_is p.block (both _ _ (both _ _ e).0).1;
+        tries = no_tries p (and_parts _ _ (and_parts _ _ e).0).0;
+        block = none_is p.block (and_parts _ _ (and_parts _ _ e).0).1;
         func = f;
         is_func = is;
         holds = h;
@@ -138,12 +123,12 @@ module _ (c : Code) (t : Table) where
     pub is_try : slice_get c.ops j ≡ Some (o.Try label)
 
   pub around_one : (i j : ℕ) → is_around c t i j ≡ true → AroundOne i j
-  around_one i j e = by_op (slice_get c.ops j) refl (both _ _ (both _ _ e).0).1
+  around_one i j e = by_op (slice_get c.ops j) refl (and_parts _ _ (and_parts _ _ e).0).1
     where
       by_op : (m : Option Op) → slice_get c.ops j ≡ m → label_behind c t i (try_label m) ≡ true → AroundOne i j
       by_op None is h = no_both (sym h)
       by_op (Some (o.Try l)) is h = record {
-        before = less_than j i (both _ _ (both _ _ e).0).0;
+        before = less_than j i (and_parts _ _ (and_parts _ _ e).0).0;
         label = l;
         behind = less_than i l h;
         is_try = is;
@@ -153,8 +138,8 @@ module _ (c : Code) (t : Table) where
   pub all_are_around : (i : ℕ) (js : List ℕ) → all_around c t i js ≡ true → Around c (notes c t) i js
   all_are_around i [] e = around_no
   all_are_around i (j ∷ js) e =
-      let a = around_one i j (both _ _ e).0 in
-      around_so a.before a.behind a.is_try (all_are_around i js (both _ _ e).1)
+      let a = around_one i j (and_parts _ _ e).0 in
+      around_so a.before a.behind a.is_try (all_are_around i js (and_parts _ _ e).1)
 
   pub around_here : (i : ℕ) (p : Spot) → all_around c t i (tries_of c t p) ≡ true → Around c (notes c t) i (names (cut
       p))
@@ -184,10 +169,10 @@ module _ (c : Code) (t : Table) where
   quiet_one : (i l : ℕ) (js : List ℕ) → all_around c t i js ≡ true → is_quiet c t js l ≡ true → Quiet c (notes c t) l js
   quiet_one i l [] a e = quiet_no
   quiet_one i l (j ∷ js) a e =
-      let x = around_one i j (both _ _ a).0 in
+      let x = around_one i j (and_parts _ _ a).0 in
       quiet_so x.is_try (asked_nothing l x.label (subst (λ (m : Option Op). asks_nothing c t (at (locals_at c t
       (try_label m)) l) ≡ true)
-      x.is_try (both _ _ e).0)) (quiet_one i l js (both _ _ a).1 (both _ _ e).1)
+      x.is_try (and_parts _ _ e).0)) (quiet_one i l js (and_parts _ _ a).1 (and_parts _ _ e).1)
 
   pub quiet_in : (i l : ℕ) (p : Spot) → all_around c t i (tries_of c t p) ≡ true → is_quiet c t (tries_of c t p) l ≡
       true →
@@ -198,7 +183,7 @@ module _ (c : Code) (t : Table) where
   -- deferred blocks
   pub ends_in : (xs ys : List ℕ) → ends_with c t xs ys ≡ true → (more : List ℕ) × (more ++ xs ≡ ys)
   ends_in xs [] e = ([], nil_is xs e)
-  ends_in xs (y ∷ ys) e = cond_with (same_numbers xs (y ∷ ys)) true (ends_with c t xs ys) (λ b. b ≡ true → (more : List
+  ends_in xs (y ∷ ys) e = cond_both (same_numbers xs (y ∷ ys)) true (ends_with c t xs ys) (λ b. b ≡ true → (more : List
       ℕ) × (more ++ xs ≡
       y ∷ ys)) (λ h e. ([], numbers_are xs (y ∷ ys) h)) (λ h e. longer (ends_in xs ys e)) e
     where
@@ -231,14 +216,14 @@ module _ (c : Code) (t : Table) where
           e count ls
       by_spot None is h = no_both (sym h)
       by_spot (Some q) is h =
-          let a = both _ _ h in
-          let b = both _ _ a.0 in
-          let d = both _ _ b.0 in
-          let g = both _ _ d.0 in
-          let l = both _ _ g.0 in
-          let m = both _ _ l.0 in
-          let n = both _ _ m.0 in
-          let r = both _ _ n.0 in
+          let a = and_parts _ _ h in
+          let b = and_parts _ _ a.0 in
+          let d = and_parts _ _ b.0 in
+          let g = and_parts _ _ d.0 in
+          let l = and_parts _ _ g.0 in
+          let m = and_parts _ _ l.0 in
+          let n = and_parts _ _ m.0 in
+          let r = and_parts _ _ n.0 in
           let more = ends_in q.outer (tries_of c t p) b.1 in
           let tries = nil_is q.tries l.1 in
           record {
@@ -263,7 +248,7 @@ module _ (c : Code) (t : Table) where
       ds
   all_ready p ls [] h = ready_no
   all_ready p ls (e ∷ ds) h =
-      let x = entry_at p e (length ds) ls (both _ _ h).0 in
+      let x = entry_at p e (length ds) ls (and_parts _ _ h).0 in
       ready_so x.more x.entry x.outer x.locals (all_ready p x.spot.locals ds (subst (λ (m : Option Spot). ready c t p
       (spot_locals m ls) ds ≡
-      true) x.there (both _ _ h).1))
+      true) x.there (and_parts _ _ h).1))

@@ -1,14 +1,14 @@
-mod Steps
-mod Holding
-mod Going
-mod Simple
+pub mod Steps
+pub mod Holding
+pub mod Going
+pub mod Simple
 mod Values
 mod Writes
-mod Marks
+pub mod Marks
 mod Calls
 mod Tasks
 mod Blocks
 mod Every
-mod Tables
+pub mod Tables
 mod Parsed
 mod Passed

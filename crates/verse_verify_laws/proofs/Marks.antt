@@ -4,12 +4,13 @@ use Rattle.std.proofs.Common.{Some, Bool, true, false}
 use Rattle.std.proofs.Common.{refl, sym, subst, ap, arith, ◌∙◌}
 use Rattle.std.specs.Prelude.{◌&&◌, slice_get}
 use Rattle.std.proofs.Common.{le-leb}
-use Rattle.std.proofs.lemmas.Bool.{leb-true}
+use Rattle.std.proofs.lemmas.Bool.{leb-true, and_parts}
+use Rattle.verse_meaning_state.proofs.Numbers.{eqn_is}
 use Rattle.verse_verify_faults.proofs.Cutting.{under, whole, beneath_length, even_more, fit_length}
 use Rattle.verse_code.specs.declared.operations.Op.{Op}
 use Rattle.verse_code.specs.declared.operations.Op.TheVariants as o
 use Rattle.verse_code.specs.declared.codes.Code.{Code}
-use Rattle.verse_code_machine_parents.proofs.Lists.{no_both, eqn_is}
+use Rattle.verse_code_machine_parents.proofs.Lists.{no_both}
 use Rattle.verse_sorts.specs.Sorts.{Sort}
 use Rattle.verse_verify_kept.specs.Notes.{Point, Notes, parent_of, point_at}
 use Rattle.verse_verify_kept.specs.Rules as r
@@ -18,12 +19,10 @@ use Rattle.verse_verify_faults.specs.Stepping as step
 use Rattle.verse_verify_faults.specs.Stepping.{Made, is, list_of, one_of, Stepped, Goes, inner, begins_arm}
 use Rattle.verse_verify_faults.specs.Stepping.{begins_block, leads, goes_on, to}
 use Rattle.verse_verify_faults.specs.Faults.{suits, all_around, at_height, level, same_defers, try_defers}
-use Rattle.verse_verify_faults.proofs.Fitting.{both}
 use Rattle.verse_verify_faults.proofs.Leading.{notes, become_is, Next, next_in, leads_with, marks_are, numbers_are}
 use Rattle.verse_verify_laws.proofs.Steps.{Fine, led}
 use Rattle.verse_verify_laws.proofs.Holding as holding
-use Rattle.verse_verify_laws.proofs.Holding.{may_fail_is, may_wait_is, quiet_in, none_is, nil_is, some_is, not_is}
-use Rattle.verse_verify_laws.proofs.Holding.{not_less}
+use Rattle.verse_verify_laws.proofs.Holding.{may_fail_is, may_wait_is, quiet_in, none_is, nil_is}
 use Rattle.verse_verify_laws.proofs.Going.{bare_one}
 
 -- a stack cut at one Try fewer
@@ -75,14 +74,14 @@ drop_more (suc k) j (x ∷ xs) = subst (λ n. drop n (x ∷ xs) ≡ drop j (drop
 
 under_even : (n : ℕ) (ms : List Mark) → even n ms ≡ true → under ms ≤ n
 under_even n [] e = omega arith
-under_even n (m ∷ ms) e = leb-true m.height n (both _ _ e).0
+under_even n (m ∷ ms) e = leb-true m.height n (and_parts _ _ e).0
 
 module _ (st : List Sort) (m : Mark) (ms : List Mark) (ev : even (length st) (m ∷ ms) ≡ true) where
-  length_beneath : length (beneath st (m ∷ ms)) ≡ m.height
+  pub length_beneath : length (beneath st (m ∷ ms)) ≡ m.height
   length_beneath = beneath_length st (m ∷ ms) ev
 
   room_less : room st ms ≡ room st (m ∷ ms) + room (beneath st (m ∷ ms)) ms
-  room_less = by_marks ms (under_even m.height ms (both _ _ ev).1) (leb-true m.height (length st) (both _ _ ev).0)
+  room_less = by_marks ms (under_even m.height ms (and_parts _ _ ev).1) (leb-true m.height (length st) (and_parts _ _ ev).0)
       length_beneath
     where
       by_marks : (ms : List Mark) → under ms ≤ m.height → m.height ≤ length st → length (beneath st (m ∷ ms)) ≡
@@ -97,7 +96,7 @@ module _ (st : List Sort) (m : Mark) (ms : List Mark) (ev : even (length st) (m 
           sums : (n h b j : ℕ) → j ≤ h → h ≤ n → b ≡ h → n - j ≡ (n - h) + (b - j)
           sums n h b j u l e = omega (arith, u, l, e)
 
-  above_less : above st ms ≡ above st (m ∷ ms) ++ above (beneath st (m ∷ ms)) ms
+  pub above_less : above st ms ≡ above st (m ∷ ms) ++ above (beneath st (m ∷ ms)) ms
   above_less = subst (λ k. take k st ≡ above st (m ∷ ms) ++ above (beneath st (m ∷ ms)) ms) (sym room_less) (take_more
       (room st (m ∷ ms)) (room
       (beneath st (m ∷ ms)) ms) st)
@@ -107,16 +106,16 @@ module _ (st : List Sort) (m : Mark) (ms : List Mark) (ev : even (length st) (m 
       subst (λ k. drop k st ≡ beneath (beneath st (m ∷ ms)) ms) (sym room_less) (drop_more (room st (m ∷ ms)) (room
       (beneath st (m ∷ ms)) ms) st)
 
-  even_less : even (length st) ms ≡ true
+  pub even_less : even (length st) ms ≡ true
   even_less =
-      even_more m.height (length st) ms (most (under ms) m.height (length st) (under_even m.height ms (both _ _ ev).1)
+      even_more m.height (length st) ms (most (under ms) m.height (length st) (under_even m.height ms (and_parts _ _ ev).1)
       (leb-true m.height
-      (length st) (both _ _ ev).0)) (both _ _ ev).1
+      (length st) (and_parts _ _ ev).0)) (and_parts _ _ ev).1
     where
       most : (a b d : ℕ) → a ≤ b → b ≤ d → a ≤ d
       most a b d l k = omega (arith, l, k)
 
-opens_less : (st : List Sort) (m : Mark) (ms : List Mark) → even (length st) (m ∷ ms) ≡ true →
+pub opens_less : (st : List Sort) (m : Mark) (ms : List Mark) → even (length st) (m ∷ ms) ≡ true →
     opens st ms ≡ opens (beneath st (m ∷ ms)) ms
 opens_less st m [] ev = refl
 opens_less st m (k ∷ ks) ev =
@@ -159,7 +158,7 @@ module _ (c : Code) (t : Table) (p : Spot) (i : ℕ) (ev : even (length p.stack)
   pub try_passes : {l : ℕ} → Done (o.Try l) → Passed (o.Try l)
   try_passes {l = l} f =
       let k = led c t p i _ f in
-      r.of_try (by_next (next_in c t p opened (both _ _ k.suit).0)) (bare_one c t p i ev (both _ _ k.suit).1)
+      r.of_try (by_next (next_in c t p opened (and_parts _ _ k.suit).0)) (bare_one c t p i ev (and_parts _ _ k.suit).1)
     where
       no_room : room p.stack (mark ∷ p.tries) ≡ 0
       no_room = nothing_left (length p.stack)
@@ -256,7 +255,7 @@ module _ (c : Code) (t : Table) (p : Spot) (i : ℕ) (ev : even (length p.stack)
   pub commit_passes : Done o.Commit → Passed o.Commit
   commit_passes f =
       let k = led c t p i _ f in
-      by_tries p.tries refl k.fit (both _ _ k.suit).0
+      by_tries p.tries refl k.fit (and_parts _ _ k.suit).0
     where
       by_tries : (ms : List Mark) → p.tries ≡ ms → level c t ms p.defers ≡ true →
           suits c t p (record (to c t p i (suc i) [] st) { tries = step.tails ms }) ≡ true → Passed o.Commit
@@ -271,7 +270,7 @@ module _ (c : Code) (t : Table) (p : Spot) (i : ℕ) (ev : even (length p.stack)
   pub undo_passes : Done o.Undo → Passed o.Undo
   undo_passes f =
       let k = led c t p i _ f in
-      by_tries p.tries refl (both _ _ k.fit).0 (both _ _ k.fit).1 k.around (both _ _ k.suit).0
+      by_tries p.tries refl (and_parts _ _ k.fit).0 (and_parts _ _ k.fit).1 k.around (and_parts _ _ k.suit).0
     where
       no_room : (n h : ℕ) → n ≡ h → n - h ≡ 0
       no_room n h e = omega (arith, e)
@@ -284,7 +283,7 @@ module _ (c : Code) (t : Table) (p : Spot) (i : ℕ) (ev : even (length p.stack)
           }) ≡ true → Passed o.Undo
       by_tries [] e h a b g = no_both (sym h)
       by_tries (m ∷ ms) e h a b g =
-          let one = holding.around_one c t i m.index (both _ _ b).0 in
+          let one = holding.around_one c t i m.index (and_parts _ _ b).0 in
           let empty = subst (λ k. take k p.stack ≡ []) (sym (no_room (length p.stack) m.height (eqn_is (length p.stack)
           m.height a))) (take_none
           p.stack) in

@@ -2,7 +2,7 @@
 use Rattle.std.proofs.Common.{◌≡◌, ℕ, zero, suc, length, List, [], ◌∷◌, Some, None, Result, Ok, Err, refl, sym, subst}
 use Rattle.std.proofs.Common.{ap, ◌∙◌}
 use Rattle.std.specs.Prelude.{slice_get}
-use Rattle.std.proofs.lemmas.Option.{none-some}
+use Rattle.std.proofs.lemmas.Option.{none-some, same_Some}
 use Rattle.verse_code.specs.declared.codes.Func.{Func}
 use Rattle.verse_code.specs.declared.codes.Code.{Code}
 use Rattle.verse_image.specs.declared.faults.Flaw.{Flaw}
@@ -13,9 +13,6 @@ use Rattle.verse_verify_faults.specs.Faults.{notes_fault}
 use Rattle.verse_verify_faults.specs.Reading.{after, below, each_at, marked, mark, class_at, func_at, spots_at, sort_at}
 use Rattle.verse_verify_faults.specs.Reading.{whole, ends, notes_at, fault_in, verdict}
 use Rattle.verse_verify_laws.specs.Laws.{Formed}
-
-some_same : {A : Type 0} {a b : A} → Some a ≡ Some b → a ≡ b
-some_same e = cc
 
 abbrev read : {A : Type 0} → A × List ℕ → Result (A × List ℕ) Flaw
 read x = Ok x
@@ -97,7 +94,7 @@ module _ (c : Code) where
       longer b ys p r = record { count = ap suc r.count; each = by_index }
         where
           by_index : (k : ℕ) (d : A) (e : B) → slice_get (a ∷ xs) k ≡ Some d → slice_get (b ∷ ys) k ≡ Some e → P d e
-          by_index zero d e h n = subst (λ d. P d e) (some_same h) (subst (λ e. P a e) (some_same n) p)
+          by_index zero d e h n = subst (λ d. P d e) (same_Some _ _ h) (subst (λ e. P a e) (same_Some _ _ n) p)
           by_index (suc k) d e h n = r.each k d e h n
 
   func_params : (f : Func) (bytes : List ℕ) (x : FuncNote × List ℕ) → func_at c f bytes ≡ Ok x → length x.0.params ≡

@@ -3,13 +3,14 @@ use Rattle.std.proofs.Common.{◌≡◌, ℕ, zero, suc, ◌+◌, length, List, 
 use Rattle.std.proofs.Common.{refl, sym}
 use Rattle.std.proofs.Common.{subst, arith}
 use Rattle.std.specs.Prelude.{ℤ, ◌&&◌, ◌||◌, slice_get}
-use Rattle.std.proofs.lemmas.Option.{none-some}
+use Rattle.std.proofs.lemmas.Option.{none-some, same_Some}
+use Rattle.std.proofs.lemmas.Bool.{and_parts, cond_both}
 use Rattle.verse_code.specs.declared.operations.Op.{Op}
 use Rattle.verse_code.specs.declared.operations.Op.TheVariants as o
 use Rattle.verse_code.specs.declared.codes.Code.{Code}
-use Rattle.verse_code_machine_parents.proofs.Lists.{no_both, cond_with}
+use Rattle.verse_code_machine_parents.proofs.Lists.{no_both}
 use Rattle.verse_sorts.specs.Sorts as s
-use Rattle.verse_sorts.specs.Sorts.{Sort, Sorts, Fits, IsKey, from_never, fits_list}
+use Rattle.verse_sorts.specs.Sorts.{Sort, IsKnown, Sorts, Fits, IsKey, from_never, fits_list}
 use Rattle.verse_sorts.specs.Typing.{at}
 use Rattle.verse_verify_kept.specs.Notes.{ClassNote}
 use Rattle.verse_verify_kept.specs.Rules as r
@@ -19,7 +20,7 @@ use Rattle.verse_verify_kept.specs.Rules.{shown_text, Queried, of_option, of_log
 use Rattle.verse_verify_kept.specs.Rules.{in_map, in_never, Path}
 use Rattle.verse_verify_kept.specs.Rules.{path_no, path_so, Counted, list_counted, map_counted, never_counted, Slot}
 use Rattle.verse_verify_kept.specs.Rules.{slot_var, slot_obj, slot_never}
-use Rattle.verse_verify_kept.specs.Rules.{Mode, mode_set, mode_int, mode_list, mode_never, IsRead, MayFail, sorts}
+use Rattle.verse_verify_kept.specs.Rules.{Mode, mode_set, mode_int, mode_list, mode_never, MayFail, sorts}
 use Rattle.verse_verify_kept.specs.Rules.{at_sort}
 use Rattle.verse_verify_faults.specs.Fitting.{fit, is_key}
 use Rattle.verse_verify_faults.specs.Spots.{Spot, Table, above, even, cut}
@@ -27,7 +28,7 @@ use Rattle.verse_verify_faults.specs.Stepping.{Stepped}
 use Rattle.verse_verify_faults.specs.Stepping.{readable, part_of_list, counted, queried, firsts, seconds, all_keys}
 use Rattle.verse_verify_faults.specs.Stepping.{all_shown, part_at, at_path}
 use Rattle.verse_verify_faults.specs.Stepping.{may_add, may_count, may_write, slots_at, on_slot, step}
-use Rattle.verse_verify_faults.proofs.Fitting.{both, fit_is, is_key_is}
+use Rattle.verse_verify_faults.proofs.Fitting.{fit_is, is_key_is}
 use Rattle.verse_verify_faults.proofs.Leading.{notes}
 use Rattle.verse_verify_laws.proofs.Steps.{Fine, led, There, there, popped, two_ints}
 use Rattle.verse_verify_laws.proofs.Holding.{may_fail_is}
@@ -50,7 +51,7 @@ pops_length (r.pops_so {n = n} {xs = xs} {ys = ys} q) = later n (length xs) (len
 -- a local that may be read
 pub record Readable (m : Option Sort) (a : Sort) : Type 0 where
   pub is : m ≡ Some a
-  pub read : IsRead a
+  pub read : IsKnown a
 
 pub readable_is : (m : Option Sort) (a : Sort) → readable m ≡ Some a → Readable m a
 readable_is None a e = elim (none-some _ e) [ ]
@@ -60,15 +61,12 @@ readable_is (Some b) a e = subst (λ a. Readable (Some b) a) (same e) (record { 
     same : {b a : Sort} → Some b ≡ Some a → b ≡ a
     same e = cc
 
-pub some_same : {A : Type 0} {a b : A} → Some a ≡ Some b → a ≡ b
-some_same e = cc
-
 module _ (c : Code) (t : Table) where
   pub all_are_shown : (xs : List Sort) → all_shown t.classes xs ≡ true → Shown c (notes c t) xs
   all_are_shown [] e = shown_no
   all_are_shown (a ∷ xs) e =
-      let more = all_are_shown xs (both _ _ e).1 in
-      either (fit t.classes a s.int || fit t.classes a s.char) (fit t.classes a (s.list s.char)) (both _ _ e).0 (λ h.
+      let more = all_are_shown xs (and_parts _ _ e).1 in
+      either (fit t.classes a s.int || fit t.classes a s.char) (fit t.classes a (s.list s.char)) (and_parts _ _ e).0 (λ h.
       either (fit t.classes
       a s.int) (fit t.classes a s.char) h (λ h. shown_int (fit_is t.classes a s.int h) more) (λ h. shown_char (fit_is
       t.classes a s.char h)
@@ -87,7 +85,7 @@ module _ (c : Code) (t : Table) where
       none : {n : ℕ} → suc n ≡ 0 → ⊥
       none e = omega (arith, e)
   are_keyed (suc m) k u (a ∷ b ∷ xs) e h (in_so f ks) (in_so g us) =
-      keyed_so (is_key_is a (both _ _ h).0) f g (are_keyed m k u xs (two_less m (length xs) e) (both _ _ h).1 ks us)
+      keyed_so (is_key_is a (and_parts _ _ h).0) f g (are_keyed m k u xs (two_less m (length xs) e) (and_parts _ _ h).1 ks us)
     where
       two_less : (m n : ℕ) → suc (suc n) ≡ suc m + suc m → n ≡ m + m
       two_less m n e = omega (arith, e)
@@ -109,29 +107,29 @@ module _ (c : Code) (t : Table) where
   counted_is a e = no_both (sym e)
 
   pub queried_is : (a b : Sort) → queried a ≡ Some b → Queried c (notes c t) a b
-  queried_is (s.opt a) b e = subst (Queried c (notes c t) (s.opt a)) (some_same e) of_option
-  queried_is s.logic b e = subst (Queried c (notes c t) s.logic) (some_same e) of_logic
-  queried_is s.nil b e = subst (Queried c (notes c t) s.nil) (some_same e) of_nil
-  queried_is s.never b e = subst (Queried c (notes c t) s.never) (some_same e) of_never
+  queried_is (s.opt a) b e = subst (Queried c (notes c t) (s.opt a)) (same_Some _ _ e) of_option
+  queried_is s.logic b e = subst (Queried c (notes c t) s.logic) (same_Some _ _ e) of_logic
+  queried_is s.nil b e = subst (Queried c (notes c t) s.nil) (same_Some _ _ e) of_nil
+  queried_is s.never b e = subst (Queried c (notes c t) s.never) (same_Some _ _ e) of_never
   queried_is a b e = elim (none-some _ e) [ ]
 
   pub part_is : (a b d : Sort) → part_at t.classes a b ≡ Some d → Indexed c (notes c t) a b d
   part_is (s.list a) b d e =
-      cond_with (fit t.classes b s.int) (Some a) None (λ m. m ≡ Some d → Indexed c (notes c t) (s.list a) b d) (λ h e.
+      cond_both (fit t.classes b s.int) (Some a) None (λ m. m ≡ Some d → Indexed c (notes c t) (s.list a) b d) (λ h e.
       subst (Indexed c (notes
-      c t) (s.list a) b) (some_same e) (in_list (fit_is t.classes b s.int h))) (λ h e. elim (none-some _ e) [ ]) e
+      c t) (s.list a) b) (same_Some _ _ e) (in_list (fit_is t.classes b s.int h))) (λ h e. elim (none-some _ e) [ ]) e
   part_is (s.map k a) b d e =
-      cond_with (is_key b && fit t.classes b k) (Some a) None (λ m. m ≡ Some d → Indexed c (notes c t) (s.map k a) b d)
+      cond_both (is_key b && fit t.classes b k) (Some a) None (λ m. m ≡ Some d → Indexed c (notes c t) (s.map k a) b d)
       (λ h e. subst (Indexed
-      c (notes c t) (s.map k a) b) (some_same e) (in_map (is_key_is b (both _ _ h).0) (fit_is t.classes b k (both _ _
+      c (notes c t) (s.map k a) b) (same_Some _ _ e) (in_map (is_key_is b (and_parts _ _ h).0) (fit_is t.classes b k (and_parts _ _
       h).1))) (λ h e. elim
       (none-some _ e) [ ]) e
-  part_is s.never b d e = subst (Indexed c (notes c t) s.never b) (some_same e) in_never
+  part_is s.never b d e = subst (Indexed c (notes c t) s.never b) (same_Some _ _ e) in_never
   part_is a b d e = elim (none-some _ e) [ ]
 
   pub path_is : (a : Sort) (xs : List Sort) (d : Sort) → at_path t.classes (Some a) xs ≡ Some d → Path c (notes c t) a
       xs d
-  path_is a [] d e = subst (Path c (notes c t) a []) (some_same e) path_no
+  path_is a [] d e = subst (Path c (notes c t) a []) (same_Some _ _ e) path_no
   path_is a (b ∷ xs) d e = by_part (part_at t.classes a b) refl e (λ f h. path_is f xs d h)
     where
       by_part : (m : Option Sort) → part_at t.classes a b ≡ m → at_path t.classes m xs ≡ Some d →

@@ -3,6 +3,7 @@ use Rattle.std.proofs.Common.{◌≡◌, ℕ, zero, suc, List, [], ◌∷◌, Op
 use Rattle.std.proofs.Common.{ap, ◌∙◌}
 use Rattle.std.specs.Prelude.{◌&&◌, ◌||◌, not}
 use Rattle.std.proofs.lemmas.Option.{none-some}
+use Rattle.std.proofs.lemmas.Bool.{and_parts}
 use Rattle.verse_code.specs.declared.operations.Op.{Op}
 use Rattle.verse_code.specs.declared.codes.Code.{Code}
 use Rattle.verse_sorts.specs.Sorts as s
@@ -15,7 +16,7 @@ use Rattle.verse_verify_faults.specs.Faults.{all_suit, all_around, all_quiet, ca
 use Rattle.verse_verify_faults.specs.Faults.{is_call, is_spawn, can_wait}
 use Rattle.verse_verify_faults.specs.Faults.{keeps_8, keeps_9, may_fail, may_wait, parts_fit, ready, tries_fit}
 use Rattle.verse_verify_faults.specs.Faults.{tries_of}
-use Rattle.verse_verify_faults.proofs.Fitting.{both, fit_is}
+use Rattle.verse_verify_faults.proofs.Fitting.{fit_is}
 use Rattle.verse_verify_faults.proofs.Leading.{notes}
 
 cond_none : (b : Bool) (x : Option ℕ) (k : ℕ) → cond b x (Some k) ≡ None → (b ≡ true) × (x ≡ None)
@@ -45,12 +46,12 @@ module _ (c : Code) (t : Table) (p : Spot) (i : ℕ) (op : Op) where
       let one = cond_none (all_suit c t p gs) _ 7 f.none in
       let two = cond_none (keeps_8 c t i p op ws g) _ 8 one.1 in
       let three = cond_none (keeps_9 c t i p op g) None 9 two.1 in
-      let a = both _ _ two.0 in
-      let b = both _ _ a.0 in
-      let d = both _ _ b.0 in
-      let e = both _ _ d.0 in
-      let m = both _ _ three.0 in
-      let n = both _ _ m.0 in
+      let a = and_parts _ _ two.0 in
+      let b = and_parts _ _ a.0 in
+      let d = and_parts _ _ b.0 in
+      let e = and_parts _ _ d.0 in
+      let m = and_parts _ _ three.0 in
+      let n = and_parts _ _ m.0 in
       record {
         suit = one.0;
         around = e.0;
@@ -120,7 +121,7 @@ module _ (c : Code) (t : Table) (p : Spot) (i : ℕ) (op : Op) where
       let x = popped f in
       let y = popped x.next in
       let n = needed _ y.next in
-      let fits = both _ _ n.is in
+      let fits = and_parts _ _ n.is in
       record {
         first = y.top;
         second = x.top;

@@ -3,14 +3,17 @@ use Rattle.std.proofs.Common.{◌≡◌, ℕ, zero, suc, ◌+◌, ◌-◌, ◌<�
 use Rattle.std.proofs.Common.{true, false, cond, refl, sym}
 use Rattle.std.proofs.Common.{subst, ap, arith, ◌∙◌}
 use Rattle.std.specs.Prelude.{◌&&◌, ◌||◌, not, map, slice_get, slice_index_or, All}
-use Rattle.std.proofs.lemmas.Option.{none-some}
+use Rattle.std.proofs.lemmas.Option.{none-some, same_Some}
+use Rattle.std.proofs.lemmas.Bool.{and_parts, not-true}
+use Rattle.verse_base.proofs.Facts.{get_within, present}
 use Rattle.verse_code.specs.declared.operations.Op.{Op}
 use Rattle.verse_code.specs.declared.codes.Func.{Func}
 use Rattle.verse_code.specs.declared.codes.Class.{Class}
 use Rattle.verse_code.specs.declared.codes.Code.{Code}
 use Rattle.verse_code.specs.Validity.{Valid, IsFunction}
 use Rattle.verse_meaning_state.specs.Waits.{eqn}
-use Rattle.verse_code_machine_parents.proofs.Lists.{no_both, eqn_is, eqn_same}
+use Rattle.verse_meaning_state.proofs.Numbers.{eqn_is, eqn_same}
+use Rattle.verse_code_machine_parents.proofs.Lists.{no_both}
 use Rattle.verse_sorts.specs.Sorts as s
 use Rattle.verse_sorts.specs.Sorts.{Sort}
 use Rattle.verse_verify_kept.specs.Notes.{ClassNote, FuncNote, Point, point_at, live}
@@ -24,48 +27,20 @@ use Rattle.verse_verify_faults.specs.Faults.{all_override, takes_object, is_meth
 use Rattle.verse_verify_faults.specs.Faults.{inherits, class_is}
 use Rattle.verse_verify_faults.specs.Faults.{class_fault, takes_inputs, func_is, func_fault, or_else, after_tables}
 use Rattle.verse_verify_faults.specs.Faults.{notes_fault}
-use Rattle.verse_verify_faults.proofs.Fitting.{both, same_is, fit_is, each_fit_is}
+use Rattle.verse_verify_faults.proofs.Fitting.{same_is, fit_is, each_fit_is, some_is}
 use Rattle.verse_verify_faults.proofs.Leading.{notes, point_there}
-use Rattle.verse_verify_laws.proofs.Holding.{none_is, nil_is, some_is, not_is, no_marks, cut_bare, opens_bare}
+use Rattle.verse_verify_laws.proofs.Holding.{none_is, nil_is, no_marks, cut_bare, opens_bare}
 use Rattle.verse_verify_laws.specs.Laws.{Formed}
 use Rattle.verse_verify_laws.proofs.Every.{no_faults, sound}
-
-some_same : {A : Type 0} {a b : A} → Some a ≡ Some b → a ≡ b
-some_same e = cc
 
 implied : (a b : Bool) → (not a || b) ≡ true → a ≡ true → b ≡ true
 implied true b e f = e
 implied false b e f = no_both (sym f)
 
-pub present : {A B : Type 0} (xs : List A) (ys : List B) (i : ℕ) (x : A) → length ys ≡ length xs → slice_get xs i ≡
-    Some x →
-    (y : B) × (slice_get ys i ≡ Some y)
-present [] ys i x e h = elim (none-some _ h) [ ]
-present (x ∷ xs) [] i a e h = elim (no_length e) [ ]
-  where
-    no_length : {k : ℕ} → 0 ≡ suc k → ⊥
-    no_length e = omega (arith, e)
-present (x ∷ xs) (y ∷ ys) zero a e h = (y, refl)
-present (x ∷ xs) (y ∷ ys) (suc i) a e h = present xs ys i a (lower _ _ e) h
-  where
-    lower : (j k : ℕ) → suc j ≡ suc k → j ≡ k
-    lower j k e = omega (arith, e)
-
-within : {A : Type 0} (xs : List A) (i : ℕ) → i < length xs → (x : A) × (slice_get xs i ≡ Some x)
-within [] i l = elim (none l) [ ]
-  where
-    none : {i : ℕ} → i < 0 → ⊥
-    none l = omega (arith, l)
-within (x ∷ xs) zero l = (x, refl)
-within (x ∷ xs) (suc i) l = within xs i (lower _ _ l)
-  where
-    lower : (j k : ℕ) → suc j < suc k → j < k
-    lower j k e = omega (arith, e)
-
-there_is : {A : Type 0} (xs : List A) (i : ℕ) (x d : A) → slice_get xs i ≡ Some x → (i < length xs) × (slice_index_or
+pub there_is : {A : Type 0} (xs : List A) (i : ℕ) (x d : A) → slice_get xs i ≡ Some x → (i < length xs) × (slice_index_or
     xs i d ≡ x)
 there_is [] i x d e = elim (none-some _ e) [ ]
-there_is (y ∷ xs) zero x d e = (positive (length xs), some_same e)
+there_is (y ∷ xs) zero x d e = (positive (length xs), same_Some _ _ e)
   where
     positive : (n : ℕ) → 0 < suc n
     positive n = omega arith
@@ -74,7 +49,7 @@ there_is (y ∷ xs) (suc i) x d e = raised (there_is xs i x d e)
     raised : (i < length xs) × (slice_index_or xs i d ≡ x) → (suc i < suc (length xs)) × (slice_index_or xs i d ≡ x)
     raised r = (omega (arith, r.0), r.1)
 
-all_get : {A : Type 0} (P : A → Type 0) (xs : List A) (i : ℕ) (x : A) → All P xs → slice_get xs i ≡ Some x → P x
+pub all_get : {A : Type 0} (P : A → Type 0) (xs : List A) (i : ℕ) (x : A) → All P xs → slice_get xs i ≡ Some x → P x
 all_get P xs i x all e = let r = there_is xs i x x e in subst P r.1 (all i x r.0)
 
 module _ (c : Code) (t : Table) where
@@ -86,9 +61,9 @@ module _ (c : Code) (t : Table) where
   entries k [] gs i e j f g h n same = elim (none-some _ h) [ ]
   entries k (x ∷ fs) [] i e j f g h n same = no_both (sym e)
   entries k (x ∷ fs) (y ∷ gs) i e zero f g h n same =
-      subst (λ k. on_spot (spot_at t i) (λ q. begins c t k f g q) ≡ true) (here k) (at_entry x y (some_same h)
-      (some_same n) (eqn x.entry i)
-      refl (both _ _ e).0)
+      subst (λ k. on_spot (spot_at t i) (λ q. begins c t k f g q) ≡ true) (here k) (at_entry x y (same_Some _ _ h)
+      (same_Some _ _ n) (eqn x.entry i)
+      refl (and_parts _ _ e).0)
     where
       here : (k : ℕ) → k ≡ k + 0
       here k = omega arith
@@ -103,7 +78,7 @@ module _ (c : Code) (t : Table) where
       at_entry x y u v false w e =
           no_both (sym (subst (λ j. eqn x.entry j ≡ true) (ap (λ (f : Func). f.entry) u ∙ same) (eqn_same x.entry)) ∙ w)
   entries k (x ∷ fs) (y ∷ gs) i e (suc j) f g h n same =
-      subst (λ k. on_spot (spot_at t i) (λ q. begins c t k f g q) ≡ true) (next k j) (entries (suc k) fs gs i (both _ _
+      subst (λ k. on_spot (spot_at t i) (λ q. begins c t k f g q) ≡ true) (next k j) (entries (suc k) fs gs i (and_parts _ _
       e).1 j f g h n same)
     where
       next : (k j : ℕ) → suc k + j ≡ k + suc j
@@ -121,14 +96,14 @@ module _ (c : Code) (t : Table) where
         where
           by_parts : (q : Spot) → spot_at t f.entry ≡ Some q → begins c t k f g q ≡ true → Begins c (notes c t) f k g
           by_parts q is h =
-              let a = both _ _ h in
-              let b = both _ _ a.0 in
-              let d = both _ _ b.0 in
-              let e = both _ _ d.0 in
-              let l = both _ _ e.0 in
-              let m = both _ _ l.0 in
-              let n = both _ _ m.0 in
-              let r = both _ _ n.0 in
+              let a = and_parts _ _ h in
+              let b = and_parts _ _ a.0 in
+              let d = and_parts _ _ b.0 in
+              let e = and_parts _ _ d.0 in
+              let l = and_parts _ _ e.0 in
+              let m = and_parts _ _ l.0 in
+              let n = and_parts _ _ m.0 in
+              let r = and_parts _ _ n.0 in
               let tries = nil_is q.tries m.1 in
               record {
                 point = cut q;
@@ -167,15 +142,15 @@ module _ (c : Code) (t : Table) where
           i) x q ≡ true
       by_test false b e i h n go = elim (none-some _ (sym e)) [ ]
       by_test true b e zero h n go =
-          subst (λ k. class_is c t k x q ≡ true) (here k) (subst (λ x. class_is c t k x q ≡ true) (some_same h) (subst
+          subst (λ k. class_is c t k x q ≡ true) (here k) (subst (λ x. class_is c t k x q ≡ true) (same_Some _ _ h) (subst
           (λ q. class_is c t k y
-          q ≡ true) (some_same n) b))
+          q ≡ true) (same_Some _ _ n) b))
       by_test true b e (suc i) h n go = subst (λ k. class_is c t k x q ≡ true) (next k i) (go i e h n)
 
   prefix_is : (xs ys : List Sort) → prefix c t xs ys ≡ true → (more : List Sort) × (ys ≡ xs ++ more)
   prefix_is [] ys e = (ys, refl)
   prefix_is (a ∷ xs) [] e = no_both (sym e)
-  prefix_is (a ∷ xs) (b ∷ ys) e = joined a b (same_is a b (both _ _ e).0) (prefix_is xs ys (both _ _ e).1)
+  prefix_is (a ∷ xs) (b ∷ ys) e = joined a b (same_is a b (and_parts _ _ e).0) (prefix_is xs ys (and_parts _ _ e).1)
     where
       cons : (a b : Sort) (xs ys zs : List Sort) → a ≡ b → ys ≡ zs → b ∷ ys ≡ a ∷ zs
       cons a b xs ys zs e f = cc
@@ -188,17 +163,17 @@ module _ (c : Code) (t : Table) where
   same_lists [] [] n e = refl
   same_lists [] (b ∷ ys) n e = no_both (sym n)
   same_lists (a ∷ xs) [] n e = no_both (sym e)
-  same_lists (a ∷ xs) (b ∷ ys) n e = joined a b (same_is a b (both _ _ e).0) (same_lists xs ys n (both _ _ e).1)
+  same_lists (a ∷ xs) (b ∷ ys) n e = joined a b (same_is a b (and_parts _ _ e).0) (same_lists xs ys n (and_parts _ _ e).1)
     where
       joined : (a b : Sort) → a ≡ b → xs ≡ ys → a ∷ xs ≡ b ∷ ys
       joined a b e f = cc
 
   override : (f g : FuncNote) → overrides c t (Some f) (Some g) ≡ true → Overrides c (notes c t) f g
   override f g e =
-      let a = both _ _ e in
-      let b = both _ _ a.0 in
-      let d = both _ _ b.0 in
-      let n = both _ _ d.0 in
+      let a = and_parts _ _ e in
+      let b = and_parts _ _ a.0 in
+      let d = and_parts _ _ b.0 in
+      let n = and_parts _ _ d.0 in
       record {
         params = same_lists (rest_of f.params) (rest_of g.params) n.0 n.1;
         result = fit_is t.classes f.result g.result d.1;
@@ -221,13 +196,13 @@ module _ (c : Code) (t : Table) where
   methods_override (i ∷ fs) (k ∷ gs) e zero j g h n =
       by_note (slice_get t.functions k) refl (subst (λ x. overrides c t (slice_get t.functions k) x ≡ true) n (subst (λ
       i. overrides c t
-      (slice_get t.functions k) (slice_get t.functions i) ≡ true) (some_same h) (both _ _ e).0))
+      (slice_get t.functions k) (slice_get t.functions i) ≡ true) (same_Some _ _ h) (and_parts _ _ e).0))
     where
       by_note : (x : Option FuncNote) → slice_get t.functions k ≡ x → overrides c t x (Some g) ≡ true → Method (k ∷ gs)
           zero g
       by_note None is e = no_both (sym e)
       by_note (Some f) is e = record { number = k; func = f; is_method = refl; noted = is; overrides = override f g e }
-  methods_override (i ∷ fs) (k ∷ gs) e (suc m) j g h n = later (methods_override fs gs (both _ _ e).1 m j g h n)
+  methods_override (i ∷ fs) (k ∷ gs) e (suc m) j g h n = later (methods_override fs gs (and_parts _ _ e).1 m j g h n)
     where
       later : Method gs m g → Method (k ∷ gs) (suc m) g
       later x = record {
@@ -252,18 +227,18 @@ module _ (c : Code) (t : Table) where
   own_methods k (i ∷ js) e zero j g h n =
       object_first k g.params (subst (λ x. is_method c t k x ≡ true) n (subst (λ i. is_method c t k (slice_get
       t.functions i) ≡ true)
-      (some_same h) (both _ _ e).0))
-  own_methods k (i ∷ js) e (suc m) j g h n = own_methods k js (both _ _ e).1 m j g h n
+      (same_Some _ _ h) (and_parts _ _ e).0))
+  own_methods k (i ∷ js) e (suc m) j g h n = own_methods k js (and_parts _ _ e).1 m j g h n
 
   of_parent : (k : ℕ) (x : ClassNote) (q : Class) → class_is c t k x q ≡ true → (b : ℕ) → x.parent ≡ Some b →
       (not (is_none (slice_get t.classes b)) ≡ true) × (prefix c t (slots_in c t (slice_get t.classes b)) x.slots ≡
       true) ×
       (all_override c t (methods_at c t (slice_get c.classes b)) q.methods ≡ true)
   of_parent k x q e b p =
-      let g = both _ _ e in
-      let h = both _ _ g.0 in
-      let d = both _ _ (subst (λ m. inherits c t m x q ≡ true) p h.1) in
-      let f = both _ _ d.0 in
+      let g = and_parts _ _ e in
+      let h = and_parts _ _ g.0 in
+      let d = and_parts _ _ (subst (λ m. inherits c t m x q ≡ true) p h.1) in
+      let f = and_parts _ _ d.0 in
       (f.0, f.1, d.1)
 
   class_rules : (k : ℕ) (x : ClassNote) (q : Class) → class_is c t k x q ≡ true → ClassIs c (notes c t) k x q
@@ -274,7 +249,7 @@ module _ (c : Code) (t : Table) where
     inherited = λ b other m j g p n h i. as_method (methods_override other.methods q.methods (subst (λ y. all_override
         c t (methods_at c t y)
         q.methods ≡ true) n (of_parent k x q e b p).2) m j g h i);
-    own = λ m j g h n. own_methods k q.methods (both _ _ e).1 m j g h n;
+    own = λ m j g h n. own_methods k q.methods (and_parts _ _ e).1 m j g h n;
   }
     where
       as_method : {m : ℕ} {g : FuncNote} → Method q.methods m g → (i : ℕ) × (f : FuncNote) × (slice_get q.methods m ≡
@@ -300,21 +275,21 @@ module _ (c : Code) (t : Table) where
           func_is c t (suc k + i) g ≡ true) → func_is c t (k + i) g ≡ true
       by_test false b e i h go = elim (none-some _ (sym e)) [ ]
       by_test true b e zero h go =
-          subst (λ k. func_is c t k g ≡ true) (here k) (subst (λ g. func_is c t k g ≡ true) (some_same h) b)
+          subst (λ k. func_is c t k g ≡ true) (here k) (subst (λ g. func_is c t k g ≡ true) (same_Some _ _ h) b)
       by_test true b e (suc i) h go = subst (λ k. func_is c t k g ≡ true) (next k i) (go i e h)
 
   inputs : (xs : List Sort) → takes_inputs c t xs ≡ true → AllFrom c (notes c t) (s.list s.int) xs
   inputs [] e = from_no
-  inputs (a ∷ xs) e = from_so (fit_is t.classes (s.list s.int) a (both _ _ e).0) (inputs xs (both _ _ e).1)
+  inputs (a ∷ xs) e = from_so (fit_is t.classes (s.list s.int) a (and_parts _ _ e).0) (inputs xs (and_parts _ _ e).1)
 
   main_rules : (g : FuncNote) → func_is c t c.main g ≡ true → MainIs c (notes c t) g
   main_rules g e =
-      let h = subst (λ b. cond b (not g.may_fail && takes_inputs c t g.params) true ≡ true) (eqn_same c.main) (both _ _
+      let h = subst (λ b. cond b (not g.may_fail && takes_inputs c t g.params) true ≡ true) (eqn_same c.main) (and_parts _ _
       e).1 in
-      record { sure = not_is g.may_fail (both _ _ h).0; params = inputs g.params (both _ _ h).1 }
+      record { sure = not-true g.may_fail (and_parts _ _ h).0; params = inputs g.params (and_parts _ _ h).1 }
 
   never_both : (k : ℕ) (g : FuncNote) → func_is c t k g ≡ true → g.may_fail ≡ true → g.may_wait ≡ true → ⊥
-  never_both k g e f w = of_bits g.may_fail g.may_wait (both _ _ e).0 f w
+  never_both k g e f w = of_bits g.may_fail g.may_wait (and_parts _ _ e).0 f w
     where
       of_bits : (a b : Bool) → not (a && b) ≡ true → a ≡ true → b ≡ true → ⊥
       of_bits true true e f w = no_both (sym e)
@@ -357,7 +332,7 @@ module _ (c : Code) (t : Table) where
         g →
         Begins c (notes c t) f k g
     begins_here k f g h n =
-        let op = within c.ops f.entry (all_get (IsFunction (length c.ops)) c.functions k f valid.functions h).entry in
+        let op = get_within c.ops f.entry (all_get (IsFunction (length c.ops)) c.functions k f valid.functions h).entry in
         let test = begin_test (begins_at c t 0 c.functions t.functions f.entry) (fault_here c t f.entry (spot_at t
         f.entry) op.0) (fault_free
         f.entry op.0 op.1) in

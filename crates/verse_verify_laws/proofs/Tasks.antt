@@ -3,12 +3,14 @@ use Rattle.std.proofs.Common.{◌≡◌, ℕ, zero, suc, ◌+◌, ◌≤◌, ◌
 use Rattle.std.proofs.Common.{refl, sym, subst, ap, arith, ◌∙◌}
 use Rattle.std.specs.Prelude.{not, slice_get}
 use Rattle.std.proofs.lemmas.Option.{none-some}
+use Rattle.std.proofs.lemmas.Bool.{and_parts}
 use Rattle.verse_code.specs.declared.operations.Op.{Op}
 use Rattle.verse_code.specs.declared.operations.Op.TheVariants as o
 use Rattle.verse_code.specs.declared.codes.Code.{Code}
 use Rattle.verse_meaning_state.specs.Waits.{eqn}
+use Rattle.verse_meaning_state.proofs.Numbers.{eqn_is, eqn_same}
 use Rattle.verse_code_machine.specs.Acts.{label_of}
-use Rattle.verse_code_machine_parents.proofs.Lists.{no_both, eqn_is, eqn_same}
+use Rattle.verse_code_machine_parents.proofs.Lists.{no_both}
 use Rattle.verse_sorts.specs.Sorts as s
 use Rattle.verse_sorts.specs.Sorts.{Sort, Sorts, from_never, fits_list}
 use Rattle.verse_sorts.specs.Typing.{AllFit, fit_no}
@@ -20,14 +22,13 @@ use Rattle.verse_verify_faults.specs.Stepping as step
 use Rattle.verse_verify_faults.specs.Stepping.{Made, is, list_of, one_of, Stepped, Goes, inner, begins_arm}
 use Rattle.verse_verify_faults.specs.Stepping.{begins_block, leads, goes_on, to}
 use Rattle.verse_verify_faults.specs.Faults.{all_suit, suits, is_none, are_arms}
-use Rattle.verse_verify_faults.proofs.Fitting.{both, fit_is}
+use Rattle.verse_verify_faults.proofs.Fitting.{fit_is, some_is}
 use Rattle.verse_verify_faults.proofs.Leading as leading
 use Rattle.verse_verify_faults.proofs.Leading.{notes, Becomes, Become, become_is, Next, next_in, leads_with, marks_are}
 use Rattle.verse_verify_faults.proofs.Leading.{numbers_are, number_is, arm_is}
 use Rattle.verse_verify_laws.proofs.Steps.{Fine, led, needed, popped}
 use Rattle.verse_verify_laws.proofs.Holding as holding
-use Rattle.verse_verify_laws.proofs.Holding.{may_fail_is, may_wait_is, quiet_in, none_is, nil_is, some_is, not_is}
-use Rattle.verse_verify_laws.proofs.Holding.{not_less}
+use Rattle.verse_verify_laws.proofs.Holding.{may_fail_is, may_wait_is, quiet_in, none_is, nil_is}
 use Rattle.verse_verify_laws.proofs.Going.{pushed_one, made_one}
 
 empty_fit : {up : ℕ → Option ℕ} {ys : List Sort} → AllFit up [] ys → ys ≡ []
@@ -113,10 +114,10 @@ module _ (c : Code) (t : Table) (p : Spot) (i : ℕ) (ev : even (length p.stack)
       let x = popped c t p i _ f in
       let n = needed c t p i _ _ x.next in
       let l = led c t p i _ n.next in
-      let a = some_is p.arm (both _ _ (both _ _ l.parts).0).0 in
-      r.of_arm_end x.is (holding.no_tries c t p l.fit) a.1 (none_is p.block (both _ _ (both _ _ l.parts).0).1) (nil_is
-      p.defers (both _ _
-      l.parts).1) (fit_is t.classes x.top a.0 (subst (λ m. fit t.classes x.top (step.arm_sort m) ≡ true) a.1 (both _ _
+      let a = some_is p.arm (and_parts _ _ (and_parts _ _ l.parts).0).0 in
+      r.of_arm_end x.is (holding.no_tries c t p l.fit) a.1 (none_is p.block (and_parts _ _ (and_parts _ _ l.parts).0).1) (nil_is
+      p.defers (and_parts _ _
+      l.parts).1) (fit_is t.classes x.top a.0 (subst (λ m. fit t.classes x.top (step.arm_sort m) ≡ true) a.1 (and_parts _ _
       n.is).0))
 
   -- an arm begins
@@ -128,7 +129,7 @@ module _ (c : Code) (t : Table) (p : Spot) (i : ℕ) (ev : even (length p.stack)
   arm_at : (l : ℕ) → suits c t p (step.arm_at c t p i l) ≡ true → ArmAt l
   arm_at l e =
       let nx = next_in c t p (step.arm_at c t p i l) e in
-      let a = some_is nx.spot.arm (both _ _ (both _ _ (both _ _ (both _ _ nx.part).0).0).0).0 in
+      let a = some_is nx.spot.arm (and_parts _ _ (and_parts _ _ (and_parts _ _ (and_parts _ _ nx.part).0).0).0).0 in
       let tries = sym (marks_are [] nx.spot.tries nx.tries) in
       let stack = empty_fit (subst (λ xs. AllFit (parent_of N) xs nx.spot.stack) (become_is c t [] nx.stack.become)
       nx.stack.fit) in
@@ -143,10 +144,10 @@ module _ (c : Code) (t : Table) (p : Spot) (i : ℕ) (ev : even (length p.stack)
               nx.locals.fit;
           stack = holding.cut_bare c t nx.spot stack tries;
           tries = holding.opens_bare c t nx.spot tries;
-          block = none_is nx.spot.block (both _ _ (both _ _ (both _ _ (both _ _ nx.part).0).0).0).1;
-          outer = nil_is nx.spot.outer (both _ _ (both _ _ (both _ _ nx.part).0).0).1;
-          under = eqn_is nx.spot.under 0 (both _ _ (both _ _ nx.part).0).1;
-          defers = nil_is nx.spot.defers (both _ _ nx.part).1;
+          block = none_is nx.spot.block (and_parts _ _ (and_parts _ _ (and_parts _ _ (and_parts _ _ nx.part).0).0).0).1;
+          outer = nil_is nx.spot.outer (and_parts _ _ (and_parts _ _ (and_parts _ _ nx.part).0).0).1;
+          under = eqn_is nx.spot.under 0 (and_parts _ _ (and_parts _ _ nx.part).0).1;
+          defers = nil_is nx.spot.defers (and_parts _ _ nx.part).1;
         };
         noted = ap step.arm_of nx.there ∙ a.1;
       }
@@ -171,7 +172,7 @@ module _ (c : Code) (t : Table) (p : Spot) (i : ℕ) (ev : even (length p.stack)
       m) gs
   arms_at zero j gs e h = record { sorts = []; arms = r.arms_no; noted = refl; count = refl; rest = h }
   arms_at (suc m) j gs e h =
-      by_label (label_of (slice_get c.ops j)) refl (both _ _ e).0 h (λ h. arms_at m (suc j) gs (both _ _ e).1 h)
+      by_label (label_of (slice_get c.ops j)) refl (and_parts _ _ e).0 h (λ h. arms_at m (suc j) gs (and_parts _ _ e).1 h)
     where
       by_label : (x : Option ℕ) → label_of (slice_get c.ops j) ≡ x → not (is_none x) ≡ true → all_suit c t p
           (step.arms_at c t p i
@@ -181,8 +182,8 @@ module _ (c : Code) (t : Table) (p : Spot) (i : ℕ) (ev : even (length p.stack)
           (step.with_label x (step.arm_labels c.ops (suc j) m)) gs
       by_label None eq f h go = no_both (sym f)
       by_label (Some l) eq f h go =
-          let one = arm_at l (both _ _ h).0 in
-          let more = go (both _ _ h).1 in
+          let one = arm_at l (and_parts _ _ h).0 in
+          let more = go (and_parts _ _ h).1 in
           record {
             sorts = one.sort ∷ more.sorts;
             arms = r.arms_so (is_arm (slice_get c.ops j) l eq) one.arm more.arms;
@@ -198,11 +199,11 @@ module _ (c : Code) (t : Table) (p : Spot) (i : ℕ) (ev : even (length p.stack)
       let l = led c t p i _ f in
       let x = arms_at m (suc i) (to c t p i (suc i + m) (step.grouped kind (step.arm_results t m (step.arm_labels c.ops
       (suc i) m)) ∷ []) st ∷
-      []) (both _ _ l.parts).1 l.suit in
+      []) (and_parts _ _ l.parts).1 l.suit in
       let known = subst (λ b. cond b (step.arm_sorts t (step.arm_labels c.ops (suc i) m)) None ≡ Some x.sorts) (sym
       (same_count (length
       (step.arm_labels c.ops (suc i) m)) m x.count)) x.noted in
-      by_kind kind (two_more m (holding.less_than 1 m (both _ _ l.parts).0)) (may_wait_is c t p l.waits) x.sorts x.arms
+      by_kind kind (two_more m (holding.less_than 1 m (and_parts _ _ l.parts).0)) (may_wait_is c t p l.waits) x.sorts x.arms
       (subst (λ (y : Option (List Sort)).
       all_suit c t p (to c t p i (suc i + m) (step.grouped kind y ∷ []) st ∷ []) ≡ true) known x.rest)
     where
@@ -228,5 +229,5 @@ module _ (c : Code) (t : Table) (p : Spot) (i : ℕ) (ev : even (length p.stack)
   pub branch_passes : {l : ℕ} → Done (o.Branch l) → Passed (o.Branch l)
   branch_passes f =
       let l = led c t p i _ f in
-      r.of_branch (may_wait_is c t p l.waits) (arm_at (suc i) (both _ _ l.suit).0).arm (pushed_one c t p i ev (both _ _
+      r.of_branch (may_wait_is c t p l.waits) (arm_at (suc i) (and_parts _ _ l.suit).0).arm (pushed_one c t p i ev (and_parts _ _
       l.suit).1)

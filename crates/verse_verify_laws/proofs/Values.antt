@@ -2,13 +2,13 @@
 use Rattle.std.proofs.Common.{◌≡◌, ◌≢◌, ℕ, zero, suc, ◌+◌, length, List, [], ◌∷◌, Some, None, true, false, refl, sym}
 use Rattle.std.proofs.Common.{subst, ap, arith, ◌∙◌}
 use Rattle.std.specs.Prelude.{nat_lt, ◌&&◌, ◌||◌}
-use Rattle.std.proofs.lemmas.Bool.{lt-ltb}
+use Rattle.std.proofs.lemmas.Bool.{lt-ltb, and_parts}
 use Rattle.std.proofs.lemmas.Option.{none-some}
 use Rattle.verse_code.specs.declared.operations.Op.{Op}
 use Rattle.verse_code.specs.declared.operations.Op.TheVariants as o
 use Rattle.verse_code.specs.declared.codes.Code.{Code}
 use Rattle.verse_sorts.specs.Sorts as s
-use Rattle.verse_sorts.specs.Sorts.{Sort, Sorts, Fits, IsKey, from_never, fits_list}
+use Rattle.verse_sorts.specs.Sorts.{Sort, IsKnown, Sorts, Fits, IsKey, from_never, fits_list}
 use Rattle.verse_verify_kept.specs.Rules as r
 use Rattle.verse_verify_kept.specs.Rules.{Fit, To, Pops, Passes, AllIn, in_no, in_so, Keyed, keyed_no, keyed_so, Shown}
 use Rattle.verse_verify_kept.specs.Rules.{shown_no, shown_int, shown_char}
@@ -16,14 +16,14 @@ use Rattle.verse_verify_kept.specs.Rules.{shown_text, Queried, of_option, of_log
 use Rattle.verse_verify_kept.specs.Rules.{in_map, in_never, Path}
 use Rattle.verse_verify_kept.specs.Rules.{path_no, path_so, Counted, list_counted, map_counted, never_counted, Slot}
 use Rattle.verse_verify_kept.specs.Rules.{slot_var, slot_obj, slot_never}
-use Rattle.verse_verify_kept.specs.Rules.{Mode, mode_set, mode_int, mode_list, mode_never, IsRead, MayFail, sorts}
+use Rattle.verse_verify_kept.specs.Rules.{Mode, mode_set, mode_int, mode_list, mode_never, MayFail, sorts}
 use Rattle.verse_verify_kept.specs.Rules.{at_sort}
 use Rattle.verse_verify_faults.specs.Spots.{Spot, Table, above, even, cut}
 use Rattle.verse_verify_faults.specs.Stepping.{is, list_of, map_of, var_of, event_of, goes_on}
 use Rattle.verse_verify_faults.specs.Stepping.{part_of_list, firsts, seconds, all_keys}
 use Rattle.verse_verify_faults.specs.Stepping.{on_tuple_item, step}
 use Rattle.verse_verify_faults.specs.Faults.{implies, callee_is, may_fail}
-use Rattle.verse_verify_faults.proofs.Fitting.{both, fit_is, each_fit_is}
+use Rattle.verse_verify_faults.proofs.Fitting.{fit_is, each_fit_is}
 use Rattle.verse_verify_faults.proofs.Leading.{notes, Becomes, a_list, a_map, a_var, an_event, Pushed}
 use Rattle.verse_verify_laws.proofs.Steps.{Fine, led, needed, there, popped, many}
 use Rattle.verse_verify_laws.proofs.Holding.{may_fail_is}
@@ -252,5 +252,5 @@ module _ (c : Code) (t : Table) (p : Spot) (i : ℕ) (ev : even (length p.stack)
       let x = popped c t p i _ f in
       let y = popped c t p i _ x.next in
       let l = led c t p i _ y.next in
-      r.of_same (x.is ∙ ap (λ zs. x.top ∷ zs) y.is) (bare c t p i ev (both _ _ l.suit).0) (bare_one c t p i ev (both _
+      r.of_same (x.is ∙ ap (λ zs. x.top ∷ zs) y.is) (bare c t p i ev (and_parts _ _ l.suit).0) (bare_one c t p i ev (and_parts _
       _ l.suit).1)

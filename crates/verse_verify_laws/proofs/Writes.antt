@@ -1,12 +1,12 @@
 -- Operations that write locals.
 use Rattle.std.proofs.Common.{◌≡◌, ℕ, suc, ◌+◌, length, map, List, [], ◌∷◌, Some, None, true}
 use Rattle.std.proofs.Common.{subst}
-use Rattle.std.proofs.lemmas.Option.{none-some}
+use Rattle.std.proofs.lemmas.Option.{none-some, same_Some}
+use Rattle.std.proofs.lemmas.Bool.{and_parts, cond_both}
 use Rattle.verse_code.specs.declared.operations.Op.{Op}
 use Rattle.verse_code.specs.declared.operations.Op.TheVariants as o
 use Rattle.verse_code.specs.declared.codes.Code.{Code}
 use Rattle.verse_code_machine.specs.Frames.{put}
-use Rattle.verse_code_machine_parents.proofs.Lists.{cond_with}
 use Rattle.verse_sorts.specs.Sorts as s
 use Rattle.verse_sorts.specs.Sorts.{Sort, Sorts, from_never, fits_list}
 use Rattle.verse_sorts.specs.Typing.{at}
@@ -17,7 +17,7 @@ use Rattle.verse_verify_faults.specs.Spots.{Spot, Table, above, opens, even, cut
 use Rattle.verse_verify_faults.specs.Stepping as step
 use Rattle.verse_verify_faults.specs.Stepping.{Made, is, list_of, one_of, Stepped, Goes, inner, begins_arm}
 use Rattle.verse_verify_faults.specs.Stepping.{begins_block, leads, goes_on, to}
-use Rattle.verse_verify_faults.proofs.Fitting.{both, fit_is}
+use Rattle.verse_verify_faults.proofs.Fitting.{fit_is}
 use Rattle.verse_verify_faults.proofs.Leading as leading
 use Rattle.verse_verify_faults.proofs.Leading.{notes, Becomes, Become, become_is, Next, next_in, leads_with, marks_are}
 use Rattle.verse_verify_faults.proofs.Leading.{numbers_are, number_is, arm_is}
@@ -25,24 +25,24 @@ use Rattle.verse_verify_laws.proofs.Steps.{Fine, led, needed, there, popped, two
 use Rattle.verse_verify_laws.proofs.Holding.{quiet_in}
 use Rattle.verse_verify_laws.proofs.Going.{put_next, wrote_sorts, bare, wrote, wrote_one, Wrote, put_sort, put_made}
 use Rattle.verse_verify_laws.proofs.Going.{Written}
-use Rattle.verse_verify_laws.proofs.Simple.{some_same, Readable, readable_is, list_part, counted_is}
+use Rattle.verse_verify_laws.proofs.Simple.{Readable, readable_is, list_part, counted_is}
 
 -- what Take writes, by the sort of the domain
 module _ (c : Code) (t : Table) where
   taken_is : (a : Sort) (k : step.Taking) → step.taken t.classes a ≡ Some k → r.Domain c (notes c t) a k.value k.beside
       k.far k.last
   taken_is (s.list a) k e = subst (λ (k : step.Taking). r.Domain c (notes c t) (s.list a) k.value k.beside k.far
-      k.last) (some_same e) r.of_list
+      k.last) (same_Some _ _ e) r.of_list
   taken_is (s.map l a) k e = subst (λ (k : step.Taking). r.Domain c (notes c t) (s.map l a) k.value k.beside k.far
-      k.last) (some_same e) r.of_map
+      k.last) (same_Some _ _ e) r.of_map
   taken_is s.never k e = subst (λ (k : step.Taking). r.Domain c (notes c t) s.never k.value k.beside k.far k.last)
-      (some_same e) r.of_none
+      (same_Some _ _ e) r.of_none
   taken_is a k e =
-      cond_with (fit t.classes a s.span) (Some (record { value = s.int; beside = s.any; far = 0; last = s.span })) None
+      cond_both (fit t.classes a s.span) (Some (record { value = s.int; beside = s.any; far = 0; last = s.span })) None
       (λ m. m ≡ Some k →
       r.Domain c (notes c t) a k.value k.beside k.far k.last) (λ h e. subst (λ (k : step.Taking). r.Domain c (notes c
       t) a k.value k.beside
-      k.far k.last) (some_same e) (r.of_span (fit_is t.classes a s.span h))) (λ h e. elim (none-some _ e) [ ]) e
+      k.far k.last) (same_Some _ _ e) (r.of_span (fit_is t.classes a s.span h))) (λ h e. elim (none-some _ e) [ ]) e
 
 module _ (c : Code) (t : Table) (p : Spot) (i : ℕ) (ev : even (length p.stack) p.tries ≡ true) where
   abbrev N : Notes
@@ -66,7 +66,7 @@ module _ (c : Code) (t : Table) (p : Spot) (i : ℕ) (ev : even (length p.stack)
       let y = there c t p i _ _ x.next in
       let k = led c t p i _ y.next in
       let z = put_sort p.locals l x.top y.it y.is in
-      let quiet = both _ _ k.quiet in
+      let quiet = and_parts _ _ k.quiet in
       r.of_put x.is z.1 (quiet_in c t i l p k.around quiet.0) (wrote_sorts c t p i ev z.0 z.2 (wrote_one c t p i ev
       k.suit))
 
@@ -96,8 +96,8 @@ module _ (c : Code) (t : Table) (p : Spot) (i : ℕ) (ev : even (length p.stack)
       let z = there c t p i _ _ y.next in
       let k = led c t p i _ z.next in
       let w = two_written l x.top s.int y.it z.it y.is z.is in
-      let one = both _ _ k.quiet in
-      let two = both _ _ one.1 in
+      let one = and_parts _ _ k.quiet in
+      let two = and_parts _ _ one.1 in
       r.of_each x.is (counted_is c t x.top n.is) w.one w.two (quiet_in c t i l p k.around one.0) (quiet_in c t i (suc
       l) p k.around two.0)
       (wrote_sorts c t p i ev w.second w.are (wrote_one c t p i ev k.suit))
@@ -109,8 +109,8 @@ module _ (c : Code) (t : Table) (p : Spot) (i : ℕ) (ev : even (length p.stack)
       let z = there c t p i _ _ y.next in
       let k = led c t p i _ z.next in
       let w = two_written l s.span s.int y.it z.it y.is z.is in
-      let one = both _ _ k.quiet in
-      let two = both _ _ one.1 in
+      let one = and_parts _ _ k.quiet in
+      let two = and_parts _ _ one.1 in
       r.of_range x.is x.one x.two w.one w.two (quiet_in c t i l p k.around one.0) (quiet_in c t i (suc l) p k.around
       two.0) (wrote_sorts
       c t p i ev w.second w.are (wrote_one c t p i ev k.suit))
@@ -140,15 +140,15 @@ module _ (c : Code) (t : Table) (p : Spot) (i : ℕ) (ev : even (length p.stack)
       let v = there c t p i _ _ u.next in
       let w = there c t p i _ _ v.next in
       let k = led c t p i _ w.next in
-      let suit = both _ _ k.suit in
-      let more = both _ _ suit.1 in
-      let one = both _ _ k.quiet in
-      let two = both _ _ one.1 in
-      let three = both _ _ two.1 in
-      let four = both _ _ three.1 in
+      let suit = and_parts _ _ k.suit in
+      let more = and_parts _ _ suit.1 in
+      let one = and_parts _ _ k.quiet in
+      let two = and_parts _ _ one.1 in
+      let three = and_parts _ _ two.1 in
+      let four = and_parts _ _ three.1 in
       take_of l d label x.it y.it q.it u.it v.it w.it (readable_is (at p.locals l) x.it x.is) (readable_is (at p.locals
       (suc l)) y.it y.is)
-      (fit_is t.classes y.it s.int (subst (λ m. step.may_number t.classes m ≡ true) y.is (both _ _ n.is).1)) q.is u.is
+      (fit_is t.classes y.it s.int (subst (λ m. step.may_number t.classes m ≡ true) y.is (and_parts _ _ n.is).1)) q.is u.is
       v.is w.is (quiet_in
       c t i l p k.around one.0) (quiet_in c t i (suc l) p k.around two.0) (quiet_in c t i d p k.around three.0)
       (quiet_in c t i (suc d) p
@@ -165,7 +165,7 @@ module _ (c : Code) (t : Table) (p : Spot) (i : ℕ) (ev : even (length p.stack)
       let one = readable_is (at p.locals l) y.it y.is in
       by_written x.top y.it q.it x.rest w.locals x.is one.is q.is (put_made c t p.locals l _ z.it w.locals z.is
       w.become) (quiet_in c t i l
-      p k.around (both _ _ k.quiet).0) w.leads
+      p k.around (and_parts _ _ k.quiet).0) w.leads
     where
       by_sort : (a b d : Sort) (rest ls : List Sort) → st ≡ a ∷ rest → at p.locals l ≡ Some b → step.part_of_list b ≡
           Some d → {u : Sort} →

@@ -4,6 +4,7 @@ use Rattle.std.proofs.Common.{sym, ap, ◌∙◌, arith}
 use Rattle.std.specs.Prelude.{◌&&◌}
 use Rattle.std.proofs.lemmas.List.{reverse-append, map-append, take-append-drop, length-reverse, length-map, length-drop}
 use Rattle.std.proofs.Math.Seq.{drop-append_seam, take-append_seam}
+use Rattle.std.proofs.Math.Bool.{and-false}
 use Rattle.verse_meaning_state.specs.Waits.{eqn}
 use Rattle.verse_sorts.specs.Sorts.{Sort}
 use Rattle.verse_verify_kept.specs.Notes.{ClassNote}
@@ -30,19 +31,15 @@ module _ {A : Type 0} (test : A → A → Bool) where
   end_no a [] = refl
   end_no a (x ∷ xs) = refl
 
-  and_false : (b : Bool) → b && false ≡ false
-  and_false true = refl
-  and_false false = refl
-
   at_end : (a b : A) (xs ys : List A) → pairwise (xs ++ a ∷ []) (ys ++ b ∷ []) ≡ test a b && pairwise xs ys
   at_end a b [] [] = refl
-  at_end a b [] (y ∷ ys) = ap (λ r. test a y && r) (no_end b ys) ∙ and_false (test a y) ∙ sym (and_false (test a b))
-  at_end a b (x ∷ xs) [] = ap (λ r. test x b && r) (end_no a xs) ∙ and_false (test x b) ∙ sym (and_false (test a b))
+  at_end a b [] (y ∷ ys) = ap (λ r. test a y && r) (no_end b ys) ∙ and-false (test a y) ∙ sym (and-false (test a b))
+  at_end a b (x ∷ xs) [] = ap (λ r. test x b && r) (end_no a xs) ∙ and-false (test x b) ∙ sym (and-false (test a b))
   at_end a b (x ∷ xs) (y ∷ ys) = ap (λ r. test x y && r) (at_end a b xs ys) ∙ turn (test x y) (test a b) (pairwise xs ys)
     where
       turn : (p q r : Bool) → p && (q && r) ≡ q && (p && r)
       turn true q r = refl
-      turn false q r = sym (and_false q)
+      turn false q r = sym (and-false q)
 
   pub reversed : (xs ys : List A) → pairwise (reverse xs) (reverse ys) ≡ pairwise xs ys
   reversed [] [] = refl

@@ -1,9 +1,10 @@
 -- What stands in locals behind writes.
-use Rattle.std.proofs.Common.{◌≡◌, ℕ, zero, suc, ◌+◌, ◌<◌, ◌≤◌, List, [], ◌∷◌, length, set, true, false, cond, refl, sym, ap, ◌∙◌, arith}
+use Rattle.std.proofs.Common.{◌≡◌, ℕ, zero, suc, ◌+◌, ◌<◌, ◌≤◌, List, [], ◌∷◌, length, set, false, cond, refl, sym, ap, ◌∙◌, arith}
 use Rattle.std.specs.Prelude.{Some, None, slice_get}
 use Rattle.std.specs.Option.{option_map}
 use Rattle.verse_sorts.specs.Typing.{at}
 use Rattle.verse_meaning_state.specs.Waits.{eqn}
+use Rattle.verse_meaning_state.proofs.Numbers.{eqn_same}
 use Rattle.verse_code_machine.specs.Frames.{put}
 use Rattle.verse_verify_faults.specs.Stepping as t
 use Rattle.verse_verify_notes.specs.declared.sorts.Sort.{Sort}
@@ -40,10 +41,6 @@ beyond (m ∷ ls) v j k w e h = ap (λ b. cond b (made_of w.made) m ∷ each_aft
         none j h = omega (arith, h)
     below zero (suc k) h = refl
     below (suc j) (suc k) h = below j k (omega (arith, h))
-
-eqn_same : (k : ℕ) → eqn k k ≡ true
-eqn_same zero = refl
-eqn_same (suc k) = eqn_same k
 
 one_after : (ls : List t.Made) (w : Write) (n k : ℕ) → w.local ≡ n + k → each_after ls (w ∷ []) k ≡ set ls n (made_of w.made)
 one_after [] w n k e = refl

@@ -8,6 +8,7 @@ use Rattle.std.proofs.lemmas.List.{reverse-append, append_assoc, map-append, len
 use Rattle.std.proofs.lemmas.Option.{none-some}
 use Rattle.std.proofs.Math.Nat.{eq-or-lt_of_le}
 use mathlib.Core.Logic.{⊎_elim}
+use Rattle.std.proofs.Math.Bool.{and-false}
 use Rattle.verse_code.specs.declared.codes.Code.{Code}
 use Rattle.verse_meaning_state.specs.Waits.{eqn}
 use Rattle.verse_verify_faults.specs.Spots as p
@@ -168,15 +169,11 @@ flip [] (y ∷ ys) = refl
 flip (x ∷ xs) [] = refl
 flip (x ∷ xs) (y ∷ ys) = ap (λ b. b && same_numbers xs ys) (eqn_flip x y) ∙ ap (λ b. eqn y x && b) (flip xs ys)
 
-and_false : (b : Bool) → b && false ≡ false
-and_false true = refl
-and_false false = refl
-
 other_length : (xs ys : List ℕ) → (length xs ≡ length ys → ⊥) → same_numbers xs ys ≡ false
 other_length [] [] d = elim (d refl) [ ]
 other_length [] (y ∷ ys) d = refl
 other_length (x ∷ xs) [] d = refl
-other_length (x ∷ xs) (y ∷ ys) d = ap (λ b. eqn x y && b) (other_length xs ys (λ e. d (ap suc e))) ∙ and_false (eqn x y)
+other_length (x ∷ xs) (y ∷ ys) d = ap (λ b. eqn x y && b) (other_length xs ys (λ e. d (ap suc e))) ∙ and-false (eqn x y)
 
 module _ (c : Code) (t : Table) where
   pub longer : (xs ys : List ℕ) → length ys < length xs → ends_with c t xs ys ≡ false

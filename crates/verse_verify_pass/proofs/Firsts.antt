@@ -6,6 +6,7 @@ use Rattle.std.specs.Prelude.{Option, Some, None, nat_lt, slice_get, ◌||◌}
 use Rattle.std.proofs.lemmas.Bool.{lt-ltb, le-ltb}
 use Rattle.std.proofs.lemmas.List.{length-take, reverse-append}
 use Rattle.std.proofs.lemmas.Option.{none-some}
+use Rattle.std.proofs.Math.Bool.{or-false}
 use Rattle.verse_code.specs.declared.operations.Op.{Op}
 use Rattle.verse_code.specs.declared.codes.Code.{Code}
 use Rattle.verse_sorts.specs.Sorts.{Sort}
@@ -53,15 +54,11 @@ any_behind [] ys = refl
 any_behind (x ∷ xs) ys =
     ap (λ b. is_never x || b) (any_behind xs ys) ∙ sym (or_more (is_never x) (any_never xs) (any_never ys))
 
-or_false : (b : Bool) → (b || false) ≡ b
-or_false true = refl
-or_false false = refl
-
 pub any_turned : (xs : List Sort) → any_never (reverse xs) ≡ any_never xs
 any_turned [] = refl
 any_turned (x ∷ xs) =
     ap any_never (reverse-append (x ∷ []) xs) ∙ any_behind (reverse xs) (x ∷ [])
-    ∙ ap (λ b. any_never (reverse xs) || b) (or_false (is_never x))
+    ∙ ap (λ b. any_never (reverse xs) || b) (or-false (is_never x))
     ∙ any_or (any_never (reverse xs)) (is_never x) ∙ ap (λ b. is_never x || b) (any_turned xs)
 
 -- by the operands as they are in memory, the top the last: one of them has no value, or what is asked of the locals decides

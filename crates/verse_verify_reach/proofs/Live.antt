@@ -1,7 +1,8 @@
 -- What an operation with right notes leads to is live: one case for each rule.
-use Rattle.std.proofs.Common.{◌≡◌, ℕ, zero, suc, ◌+◌, ◌-◌, ◌<◌, ◌≤◌, List, [], ◌∷◌, length, true, Some, None}
-use Rattle.std.proofs.Common.{slice_get, refl, sym, ap, ◌∙◌, arith, subst, true≢false, unwrap_or}
-use Rattle.std.proofs.lemmas.Option.{none-some}
+use Rattle.std.proofs.Common.{◌≡◌, ℕ, zero, suc, ◌+◌, ◌-◌, ◌<◌, ◌≤◌, List, [], ◌∷◌, true, Some, None}
+use Rattle.std.proofs.Common.{slice_get, sym, ◌∙◌, arith, subst, true≢false}
+use Rattle.std.proofs.lemmas.Option.{none-some, same_Some}
+use Rattle.verse_base.proofs.Facts.{present}
 use Rattle.verse_code.specs.declared.operations.Op.{Op}
 use Rattle.verse_code.specs.declared.operations.Op.TheVariants as o
 use Rattle.verse_code.specs.declared.codes.Code.{Code}
@@ -11,23 +12,11 @@ use Rattle.verse_verify_kept.specs.Notes.{Open, Point, Notes, point_at}
 use Rattle.verse_verify_kept.specs.Rules as r
 use Rattle.verse_verify_reach.specs.Laws.{HasValues, Comes, comes_entry, comes_by, ReachedAreLive, VerifiedFlowGoes}
 
-some_is : {A : Type 0} {x y : A} → Some x ≡ Some y → x ≡ y
-some_is {x = x} e = ap (λ z. unwrap_or z x) e
-
 try_is : (l m : ℕ) → o.Try l ≡ o.Try m → l ≡ m
 try_is l m e = cc
 
 arm_is : (l m : ℕ) → o.Arm l ≡ o.Arm m → l ≡ m
 arm_is l m e = cc
-
--- as long lists have entries at the same places
-same_there : {A B : Type 0} (xs : List A) (ys : List B) (k : ℕ) (x : A) → length ys ≡ length xs →
-    slice_get xs k ≡ Some x →
-    (y : B) × (slice_get ys k ≡ Some y)
-same_there [] ys k x e h = elim (none-some x h) [ ]
-same_there (z ∷ xs) [] k x e h = absurd (omega (arith, e))
-same_there (z ∷ xs) (y ∷ ys) zero x e h = (y, refl)
-same_there (z ∷ xs) (y ∷ ys) (suc k) x e h = same_there xs ys k x (omega (arith, e)) h
 
 module _ (c : Code) (n : Notes) where
   -- a Try stands there, and its label is live
@@ -73,7 +62,7 @@ module _ (c : Code) (n : Notes) where
   undone p i label t ts e is k h =
       let all : AllLive (t ∷ ts) = subst AllLive e h in
       let own = all.0 in
-      let same : own.0 ≡ label = try_is own.0 label (some_is (sym own.1 ∙ is)) in
+      let same : own.0 ≡ label = try_is own.0 label (same_Some _ _ (sym own.1 ∙ is)) in
       led (k own.2 (subst (λ l. point_at n l ≡ Some own.2) same own.3)) all.1
 
   module _ (i : ℕ) (p : Point) (h : AllLive p.tries) where
@@ -152,13 +141,13 @@ module _ (c : Code) (n : Notes) where
     on op is (r.of_defer_end b k s d q f) e = absurd (true≢false (sym e))
 
     to : (op : Op) (l : ℕ) → r.Passes c n i p op → leads_to op ≡ Some l → LiveAt l
-    to op l (r.of_jump t) e = subst LiveAt (some_is e) (led t h)
-    to op l (r.of_same s t u) e = subst LiveAt (some_is e) (led u h)
-    to op l (r.of_again t) e = subst LiveAt (some_is e) (led t h)
-    to op l (r.of_try t u) e = subst LiveAt (some_is e) (led u h)
-    to op l (r.of_take a b f d x y z q u v w t k) e = subst LiveAt (some_is e) (led k h)
-    to op l (r.of_branch w a t) e = subst LiveAt (some_is e) (led t h)
-    to op l (r.of_defer a b d t) e = subst LiveAt (some_is e) (led t h)
+    to op l (r.of_jump t) e = subst LiveAt (same_Some _ _ e) (led t h)
+    to op l (r.of_same s t u) e = subst LiveAt (same_Some _ _ e) (led u h)
+    to op l (r.of_again t) e = subst LiveAt (same_Some _ _ e) (led t h)
+    to op l (r.of_try t u) e = subst LiveAt (same_Some _ _ e) (led u h)
+    to op l (r.of_take a b f d x y z q u v w t k) e = subst LiveAt (same_Some _ _ e) (led k h)
+    to op l (r.of_branch w a t) e = subst LiveAt (same_Some _ _ e) (led t h)
+    to op l (r.of_defer a b d t) e = subst LiveAt (same_Some _ _ e) (led t h)
     to op l x e = elim (none-some l e) [ ]
 
     past : (kind m k : ℕ) → r.Passes c n i p (o.Group kind m k) → LiveAt (suc i + m)
@@ -170,7 +159,7 @@ module _ (c : Code) (n : Notes) where
   arm_at p a (suc m) zero l ls rs (r.arms_so {l = b} is x rest) lt e =
       let there : slice_get c.ops a ≡ Some (o.Arm l) = let same : a + 0 ≡ a = omega arith in
       subst (λ k. slice_get c.ops k ≡ Some (o.Arm l)) same e in
-      subst LiveAt (arm_is b l (some_is (sym is ∙ there))) (armed x)
+      subst LiveAt (arm_is b l (same_Some _ _ (sym is ∙ there))) (armed x)
   arm_at p a (suc m) (suc d) l ls rs (r.arms_so is x rest) lt e =
       arm_at p (suc a) m d l _ _ rest (omega (arith, lt)) (let same : a + suc d ≡ suc a + d = omega arith in
       subst (λ k. slice_get c.ops k ≡ Some (o.Arm l)) same e)
@@ -187,7 +176,7 @@ module _ (c : Code) (n : Notes) where
     passes : (i : ℕ) (p : Point) (op : Op) → point_at n i ≡ Some p → HasValues p → slice_get c.ops i ≡ Some op →
         r.Passes c n i p op
     passes i p op e has is =
-        let s = v.live i p e in subst (r.Passes c n i p) (some_is (sym s.is_op ∙ is)) (asks s.op s.passes)
+        let s = v.live i p e in subst (r.Passes c n i p) (same_Some _ _ (sym s.is_op ∙ is)) (asks s.op s.passes)
       where
         asks : (k : Op) → r.Asked c n i p k → r.Passes c n i p k
         asks k (r.asked q) = q
@@ -204,12 +193,12 @@ module _ (c : Code) (n : Notes) where
 
     reached_live : {i : ℕ} → Comes c n i → LiveAt i
     reached_live (comes_entry k {f = f} e) =
-        let g = same_there c.functions n.functions k f v.counted.1 e in
+        let g = present c.functions n.functions k f v.counted.1 e in
         let b = v.begins k f g.0 e g.1 in
         record { point = b.point; live = b.live; tries = none_open b.tries }
     reached_live (comes_by {i} {j} h e has s) =
         let there = reached_live h in
-        flow_live i j there (subst HasValues (some_is (sym e ∙ there.live)) has) s
+        flow_live i j there (subst HasValues (same_Some _ _ (sym e ∙ there.live)) has) s
 
     no_arm : (i l : ℕ) (p : Point) → r.Passes c n i p (o.Arm l) → ⊥
     no_arm i l p h = elim h [ ]

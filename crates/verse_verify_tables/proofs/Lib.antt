@@ -1,4 +1,3 @@
-pub mod Orders
 pub mod Chains
 pub mod Overriding
 pub mod RuleSets

@@ -1,7 +1,6 @@
 -- Numbers from one on, one by one.
-use Rattle.std.proofs.Common.{◌≡◌, ℕ, zero, suc, ◌+◌, ◌-◌, ◌<◌, ◌≤◌, List, [], ◌∷◌, length, Bool, true, false, refl, sym, ap, ◌∙◌, arith}
+use Rattle.std.proofs.Common.{◌≡◌, ℕ, suc, ◌+◌, ◌-◌, ◌<◌, ◌≤◌, List, [], ◌∷◌, length, Bool, true, false, refl, sym, ap, ◌∙◌, arith}
 use Rattle.std.specs.Prelude.{◌&&◌}
-use Rattle.verse_meaning_state.specs.Waits.{eqn}
 use Rattle.verse_verify_kept.specs.Rules.{sorts}
 use Rattle.verse_verify_notes.specs.declared.sorts.Sort.{Sort as Kept}
 use Rattle.verse_verify_notes.specs.View.{sorts_of}
@@ -33,8 +32,3 @@ module _ (test : ℕ → Bool) where
 pub count_is : (xs : List Kept) → size (sorts (sorts_of xs)) ≡ length xs
 count_is [] = refl
 count_is (x ∷ xs) = ap suc (count_is xs)
-
-pub more_than : (m n : ℕ) → n < m → eqn m n ≡ false
-more_than zero n h = absurd (omega (arith, h))
-more_than (suc m) zero h = refl
-more_than (suc m) (suc n) h = more_than m n (omega (arith, h))

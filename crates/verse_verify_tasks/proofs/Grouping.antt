@@ -2,7 +2,9 @@
 use Rattle.std.proofs.Common.{◌≡◌, ℕ, zero, suc, ◌+◌, ◌<◌, ◌≤◌, List, [], ◌∷◌, length, Bool, true, false, cond, refl, sym, ap, subst, ◌∙◌}
 use Rattle.std.proofs.Common.{arith}
 use Rattle.std.specs.Prelude.{◌≢◌, not, ◌&&◌, Option, Some, None}
+use Rattle.std.proofs.lemmas.Bool.{and_parts}
 use Rattle.verse_meaning_state.specs.Waits.{eqn}
+use Rattle.verse_meaning_state.proofs.Numbers.{eqn_same}
 use Rattle.verse_sorts.specs.Sorts as s
 use Rattle.verse_sorts.specs.Sorts.{Sort, Sorts, no_sorts, more_sorts}
 use Rattle.verse_verify_kept.specs.Notes.{ClassNote}
@@ -12,11 +14,12 @@ use Rattle.verse_verify_faults.specs.Spots.{Spot, spot_at}
 use Rattle.verse_verify_faults.specs.Stepping.{Goes, arm_at, arm_labels, with_label, arm_of, arm_results, arm_sorts, arms_at, behind_arm}
 use Rattle.verse_verify_faults.specs.Stepping.{grouped}
 use Rattle.verse_verify_faults.specs.Faults.{holds, is_none, on_spot, suits}
+use Rattle.verse_verify_faults.proofs.Fitting.{some_is}
 use Rattle.verse_verify_next.specs.declared.heres.Here.{Here}
 use Rattle.verse_verify_next.specs.Heres.{code_in, table_in, classes_in, spot_in, suited}
 use Rattle.verse_verify_tasks.specs.Arms.{all_from, each_from, size, label_at, label_suits, is_arm, may_begin, sort_there, arm_fits, on_arm}
 use Rattle.verse_verify_tasks.specs.Arms.{are_arms, do_begin, do_fit, do_fill, labels_in, grouped_in, group_ends, group_goes}
-use Rattle.verse_verify_tasks.proofs.Tests.{both, eqn_same, some_is, spot_is, second, first}
+use Rattle.verse_verify_tasks.proofs.Tests.{spot_is, second, first}
 
 -- a value of any sort stands where nothing is asked
 pub fits_nothing : (cs : List ClassNote) (a : Sort) → fit cs a s.none ≡ true
@@ -79,7 +82,7 @@ module _ (h : Here) where
   -- where all are Arms that may begin, all of them give something
   starts : (l : ℕ) → label_suits h (Some l) ≡ true → (a : Sort) × (sort_there h (Some l) ≡ Some a)
   starts l e =
-      let q = spot_is (spot_at (table_in h) l) _ (both _ _ e).0 in
+      let q = spot_is (spot_at (table_in h) l) _ (and_parts _ _ e).0 in
       let a = some_is q.0.arm (first _ _ _ _ _ (second _ _ _ _ _ q.2)) in
       (a.0, ap arm_of q.1 ∙ a.1)
 
@@ -97,8 +100,9 @@ module _ (h : Here) where
       fills no_sorts = refl
       fills (more_sorts b ys) = refl
   known a (suc m) e f =
-      let l = some_is (label_at h a) (both _ _ e).0 in
-      more a m l.0 l.1 (starts l.0 (subst (λ x. label_suits h x ≡ true) l.1 (both _ _ f).0)) (known (suc a) m (both _ _ e).1 (both _ _ f).1)
+      let l = some_is (label_at h a) (and_parts _ _ e).0 in
+      more a m l.0 l.1 (starts l.0 (subst (λ x. label_suits h x ≡ true) l.1 (and_parts _ _ f).0))
+      (known (suc a) m (and_parts _ _ e).1 (and_parts _ _ f).1)
     where
       more : (a m l : ℕ) → label_at h a ≡ Some l → (x : Sort) × (sort_there h (Some l) ≡ Some x) → Known (suc a) m → Known a (suc m)
       more a m l e x k = record {

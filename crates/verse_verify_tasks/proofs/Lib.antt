@@ -1,3 +1,4 @@
+mod RuleSets
 pub mod Tests
 pub mod Counting
 pub mod Grouping

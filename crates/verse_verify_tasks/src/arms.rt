@@ -133,7 +133,7 @@ fn does_each_fit(here: &Here, parts: &[Sort]) -> bool
 }
 
 /// Whether what so many of them give may stand, one by one, where these are wanted.
-#[tactic(auto, using(crate::proofs::Counting::count_is, crate::proofs::Counting::more_than))]
+#[tactic(auto, using(crate::proofs::RuleSets::of_filling))]
 fn do_fill(here: &Here, count: u32, parts: &[Sort]) -> bool
     ensures { result ≡ a.do_fill here.now count (sorts (sorts_of parts.now)) }
 {

@@ -1,9 +1,10 @@
 -- Pieces are written.
-use Rattle.std.proofs.Common.{◌≡◌, ℕ, suc, ◌<◌, List, [], ◌∷◌, ◌++◌, length, map, rules, refl, sym, ap, ◌∙◌}
+use Rattle.std.proofs.Common.{◌≡◌, ℕ, ◌<◌, List, [], ◌∷◌, ◌++◌, length, rules, sym, ap, ◌∙◌}
 use Rattle.std.proofs.Common.{append_assoc}
 use Rattle.std.proofs.lemmas.List.{append-nil, reverse-reverse}
 use Rattle.std.specs.Prelude.{false, reverse}
 use Rattle.std.specs.Global.{Vec}
+use Rattle.verse_base.proofs.Facts.{as_long}
 use Rattle.verse_image.specs.Format.{Spelled}
 use Rattle.verse_image.specs.Writing.{Writes}
 use Rattle.verse_sorts.specs.Sorts as s
@@ -22,10 +23,6 @@ use Rattle.verse_verify_notes.specs.View.{sort_of, sorts_of}
 pub written_number : (n : ℕ) (old new : List ℕ) → n < 18446744073709551616 → Writes (Spelled n) old new → new ≡ old ++ number n
 written_number n old new lt w =
     w.1 ∙ ap (λ (p : List ℕ). old ++ p) (sym (append-nil w.0) ∙ one_spelling n (w.0 ++ []) [] lt (w.2 []) ∙ append-nil (number n))
-
-as_long : {A B : Type 0} (view : A → B) (xs : List A) → length xs ≡ length (map view xs)
-as_long view [] = refl
-as_long view (x ∷ xs) = ap suc (as_long view xs)
 
 -- one piece, and then another
 pub both_written : (p q old a new : List ℕ) → a ≡ old ++ p → new ≡ a ++ q → new ≡ old ++ (p ++ q)

@@ -1,11 +1,13 @@
 -- A spawned task and a group, as they begin.
-use Rattle.std.proofs.Common.{◌≡◌, ◌≢◌, ℕ, zero, suc, ◌≤◌, ◌-◌, true, List, [], ◌∷◌, ◌++◌, length, map, reverse, Option, Some, None}
+use Rattle.std.proofs.Common.{◌≡◌, ◌≢◌, ℕ, suc, ◌≤◌, ◌-◌, true, List, [], ◌∷◌, ◌++◌, length, map, reverse, Option, Some, None}
 use Rattle.std.proofs.Common.{option_map, refl, sym, ap, subst, ◌∙◌, arith}
 use Rattle.std.specs.Global.{Vec}
+use Rattle.std.proofs.lemmas.List.{length-map}
+use Rattle.verse_base.proofs.Facts.{map_last}
 use Rattle.task_tree.specs.Tasks.{Task}
 use Rattle.task_tree.specs.Nested.{IsTree}
 use Rattle.verse_code.specs.declared.codes.Func.{Func}
-use Rattle.verse_value.specs.Val.{Val, unit}
+use Rattle.verse_value.specs.Val.{Val}
 use Rattle.verse_value.specs.declared.runs.Ending.TheVariants as ending
 use Rattle.verse_meaning_state.specs.State.{State, spending, stepped, with_entry}
 use Rattle.verse_code_machine.specs.Tasks as m
@@ -18,10 +20,10 @@ use Rattle.vm_tasks_laws.specs.Standing.{Stands}
 use Rattle.vm_tasks_laws.specs.Clocks.{sleeping, Timed}
 use Rattle.vm_tasks_laws.proofs.Ticks.{same_timed, entry_timed}
 use Rattle.vm_tasks_laws.proofs.Wakings.{added_waits, item_waits}
-use Rattle.fiber.specs.Calls as fiber
 use Rattle.vm_frames.specs.Framed.{Framed}
 use Rattle.vm_frames.specs.Calls.{entered}
 use Rattle.vm_frames.specs.Machine.{frames_with, all_free}
+use Rattle.vm_frames.proofs.Whole.{units_same}
 use Rattle.vm_running.specs.Views.{View, Aside, state_of}
 use Rattle.vm_running.specs.Doings.{on_frame, going}
 use Rattle.vm_running.specs.Comes.{done}
@@ -48,18 +50,6 @@ use Rattle.vm_scheduler.proofs.Running.{own_of, own_goes, suspended_of, on_meets
 use Rattle.vm_begin.specs.Doings.{spawns_task, begins_group}
 use Rattle.vm_begin.specs.Arms.{BeginsArm}
 use Rattle.vm_begin.proofs.Arms.{steps_bare}
-
-units_same : (n : ℕ) → fiber.units n ≡ frames.units n
-units_same zero = refl
-units_same (suc n) = ap (λ us. unit ∷ us) (units_same n)
-
-map_last : {A B : Type 0} (f : A → B) (xs : List A) (x : A) → map f (xs ++ x ∷ []) ≡ map f xs ++ f x ∷ []
-map_last f [] x = refl
-map_last f (y ∷ xs) x = ap (λ w. f y ∷ w) (map_last f xs x)
-
-map_length : {A B : Type 0} (f : A → B) (xs : List A) → length (map f xs) ≡ length xs
-map_length f [] = refl
-map_length f (x ∷ xs) = omega (arith, map_length f xs)
 
 abbrev with_none : Aside → Aside
 with_none a = record a { results = a.results ++ None ∷ [] }
@@ -123,7 +113,7 @@ module _ {W : Type 0} (pending : W → List Pending) where
           goes = own_goes pending (record { aside = with_none a; who = mine; world = at }) spawn_view spawn_tasks standing
               (steps_bare pending v (entered left func vs []) left less bare) (λ e. absurd (cc)) refl refl;
           is = spawn_is a w o bare g.ready.some less (ap (λ rs. length rs) s.clock.results ∙
-              (map_length (λ o. option_map given_of o) t.results.items ∙ sym number));
+              (length-map t.results.items (λ o. option_map given_of o) ∙ sym number));
         }
       where
         spawned : (fs : List Framed) → Aside → Who → World → (n : ℕ) → List Val → State → Step

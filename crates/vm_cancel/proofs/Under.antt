@@ -2,10 +2,10 @@
 use Rattle.std.proofs.Common.{◌≡◌, ℕ, Bool, true, false, cond, List, [], ◌∷◌, ◌++◌, refl, sym, ap, subst, ◌∙◌}
 use Rattle.std.proofs.lemmas.Bool.{cond_both}
 use Rattle.verse_meaning_state.specs.Waits.{eqn, ltn}
+use Rattle.verse_meaning_state.proofs.Numbers.{eqn_is}
 use Rattle.verse_code_machine.specs.Tasks as m
 use Rattle.verse_code_machine.specs.Tasks.{Part, did, runs, World, starts, since, beneath_arms}
 use Rattle.verse_code_machine.specs.Cancelling.{without, world_without, inserted, gone_before, gone_behind, cancelled}
-use Rattle.vm_tasks_laws.proofs.Paths.{eqn_is}
 use Rattle.vm_scheduler.specs.Going.{NoneBeneath, NothingUnder}
 
 abbrev Closed : (List ℕ → Bool) → Type 0

@@ -2,6 +2,7 @@
 use Rattle.std.proofs.Common.{◌≡◌, ◌≢◌, ℕ, Result, Ok, Err, IfOk, List, [], ◌∷◌, ◌++◌, map, reverse, Option, Some, None, refl, sym, ap}
 use Rattle.std.proofs.Common.{subst, ◌∙◌}
 use Rattle.std.specs.Global.{Vec}
+use Rattle.std.proofs.lemmas.List.{map-append}
 use Rattle.verse_value.specs.Val.{Val, unit}
 use Rattle.verse_value.specs.Val as val
 use Rattle.verse_value.specs.View.{val_of}
@@ -31,40 +32,11 @@ use Rattle.vm_scheduler.specs.Meets.{Meets}
 use Rattle.vm_scheduler.specs.Moving.{Resumes}
 use Rattle.vm_scheduler.proofs.Running.{on_meets}
 use Rattle.vm_group.specs.Groups.{Hand}
+use Rattle.vm_suspend.proofs.Above.{begins_or, entry_or, frames_or, first_or, others_of, BeginsAbove}
 use Rattle.vm_complete.specs.Groups.{ArmEndsOn}
 use Rattle.vm_complete.specs.Overs.{Gone, IsGone, IsGoneRoot, PartGone, RootGone}
 
 -- which one it is
-
-abbrev begins_or : Begins → Up → Begins
-begins_or b (up.Begins c) = c
-begins_or b (up.Branching id fs) = b
-begins_or b (up.Spawning id fs entry) = b
-
-abbrev frames_or : List Framed → Up → List Framed
-frames_or gs (up.Begins c) = gs
-frames_or gs (up.Branching id fs) = fs
-frames_or gs (up.Spawning id fs entry) = fs
-
-abbrev entry_or : ℕ → Up → ℕ
-entry_or i (up.Begins c) = i
-entry_or i (up.Branching id fs) = i
-entry_or i (up.Spawning id fs entry) = entry
-
-abbrev first_or : Up → List Up → Up
-first_or x [] = x
-first_or x (y ∷ ys) = y
-
-abbrev others_of : List Up → List Up
-others_of [] = []
-others_of (y ∷ ys) = ys
-
-record BeginsAbove (b : Begins) (us : List Up) (ms : List m.Up) : Type 0 where
-  who : Who
-  later : List m.Up
-  is : ms ≡ begins_of who b ∷ later
-  suspended : Suspended who.number b.thread
-  are : UpsAre us later
 
 record BranchesAbove (fs : List Framed) (us : List Up) (ms : List m.Up) : Type 0 where
   who : Who
@@ -140,10 +112,6 @@ spawns_above i gs n us all ms (spawning_up {us = vs} {ms = ns} id fs entry w ps 
       are = subst (λ z. UpsAre z ns) rest a;
     }
 
-parts_append : (a b : List Arm) → map part_of (a ++ b) ≡ map part_of a ++ map part_of b
-parts_append [] b = refl
-parts_append (x ∷ a) b = ap (λ w. part_of x ∷ w) (parts_append a b)
-
 module _ {W : Type 0} (pending : W → List Pending) where
   -- it stands again where its child is gone
 
@@ -182,7 +150,7 @@ module _ {W : Type 0} (pending : W → List Pending) where
 
   gave : (b : Begins) (arms : Vec Arm) (x : Value) → arms.items ≡ b.arms.items ++ Did x ∷ [] →
       map part_of b.arms.items ++ did (val_of x) ∷ [] ≡ map part_of arms.items
-  gave b arms x e = sym (ap (λ z. map part_of z) e ∙ parts_append b.arms.items (Did x ∷ []))
+  gave b arms x e = sym (ap (λ z. map part_of z) e ∙ map-append part_of b.arms.items (Did x ∷ []))
 
   pub arm_hand : (b : Begins) (arms : Vec Arm) (x : Value) (v : View) (t : Tasks W) → arms.items ≡ b.arms.items ++ Did x ∷ [] →
       IsGone pending (up.Begins b) v t → Hand pending (record b { arms = arms }) v t

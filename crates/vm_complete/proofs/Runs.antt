@@ -8,9 +8,9 @@ use Rattle.verse_value.specs.Val.{Val}
 use Rattle.verse_value.specs.View.{val_of}
 use Rattle.verse_value.specs.declared.values.Value.{Value}
 use Rattle.verse_meaning_state.specs.Waits.{eqn}
+use Rattle.verse_meaning_state.proofs.Numbers.{eqn_same, eqn_not}
 use Rattle.verse_code_machine.specs.Tasks.{Part, did, runs}
 use Rattle.verse_code_machine.specs.Ends.{is_run, with_did}
-use Rattle.vm_tasks_laws.proofs.Paths.{eqn_same, eqn_other}
 use Rattle.vm_tasks.specs.declared.slots.Arm.{Arm}
 use Rattle.vm_tasks.specs.declared.slots.Arm.TheVariants.{Did}
 use Rattle.vm_tasks.specs.View.{part_of}
@@ -20,7 +20,7 @@ pub eqn_yes : (a b : ℕ) → a ≡ b → eqn b a ≡ true
 eqn_yes a b e = ap (λ k. eqn b k) e ∙ eqn_same b
 
 pub eqn_no : (a b : ℕ) → (a ≡ b → ⊥) → eqn b a ≡ false
-eqn_no a b d = eqn_other b a (λ e. d (sym e))
+eqn_no a b d = eqn_not b a (λ e. d (sym e))
 
 -- one arm after another
 

@@ -1,14 +1,14 @@
 -- Deferred blocks.
-use Rattle.std.proofs.Common.{◌≡◌, ◌≢◌, ℕ, zero, suc, ◌+◌, ◌<◌, ◌≤◌, Bool, true, false, not, cond, nat_eq, Option, Some, None, List, []}
+use Rattle.std.proofs.Common.{◌≡◌, ◌≢◌, ℕ, suc, ◌+◌, ◌<◌, ◌≤◌, Bool, true, false, not, cond, Option, Some, None, List, []}
 use Rattle.std.proofs.Common.{◌∷◌, length, map, refl, sym, ap, subst, ◌∙◌, arith}
-use Rattle.std.proofs.lemmas.Bool.Decides.{nat_tests}
+use Rattle.verse_base.proofs.Facts.{nat_eq_not}
 use Rattle.verse_code.specs.declared.codes.Code.{Code}
 use Rattle.verse_code.specs.declared.operations.Op.TheVariants as op
 use Rattle.verse_value.specs.declared.runs.Ending.TheVariants as ending
-use Rattle.verse_meaning_state.specs.State.{State, Memory, spending}
+use Rattle.verse_meaning_state.specs.State.{Memory, spending}
 use Rattle.verse_meaning_state.specs.Waits.{ltn}
+use Rattle.verse_meaning_state.proofs.Numbers.{ltn_yes, ltn_no}
 use Rattle.verse_code_machine.specs.Tasks.{Note, to, gone, Who, World, Step, Next, Over, machine}
-use Rattle.verse_code_machine.specs.Tasks as tasks
 use Rattle.verse_code_machine.specs.Frames as m
 use Rattle.verse_code_machine.specs.Acts.{leaves}
 use Rattle.tx_heap.specs.State.{State as Kept}
@@ -22,31 +22,14 @@ use Rattle.vm_running.specs.declared.runners.Did.TheVariants as did
 use Rattle.vm_running.specs.Views.{View, Aside, Ready, state_of, memories}
 use Rattle.vm_running.specs.Doings.{Doing, going, acts, goes_to, goes_on, where_fits, spends}
 use Rattle.vm_running.specs.Comes.{done, Ends, Comes, Leads}
-use Rattle.vm_running.proofs.Steps.{at, stays, sticks, fits_in, ready_as, comes_by, moves}
-
-ltn_yes : (n m : ℕ) → n < m → ltn n m ≡ true
-ltn_yes n zero h = absurd (omega (arith, h))
-ltn_yes zero (suc m) h = refl
-ltn_yes (suc n) (suc m) h = ltn_yes n m (omega (arith, h))
-
-ltn_no : (n m : ℕ) → m ≤ n → ltn n m ≡ false
-ltn_no n zero h = refl
-ltn_no zero (suc m) h = absurd (omega (arith, h))
-ltn_no (suc n) (suc m) h = ltn_no n m (omega (arith, h))
+use Rattle.vm_running.proofs.Steps.{at, stays, sticks, fits_in, ready_as, comes_by, moves, nowhere}
 
 kept_is : (born : ℕ) (hs : List Handler) (ms : List Memory) → m.kept_defers (handlers_with born hs ms) ≡ kept_defers hs
 kept_is born [] ms = refl
 kept_is born (h ∷ hs) ms = refl
 
-nowhere : (b : Bool) (s : State) → m.only_where b s (tasks.stuck s) ≡ tasks.stuck s
-nowhere true s = refl
-nowhere false s = refl
-
-equal_not : (n k : ℕ) → (n ≡ k → ⊥) → nat_eq n k ≡ false
-equal_not n k other = grind (arith, nat_tests)
-
 pub noted_place : (n : ℕ) → n < 4294967295 → note_of n ≡ to n
-noted_place n lt = ap (λ b. cond b gone (to n)) (equal_not n 4294967295 (λ e. absurd (omega (arith, lt, e))))
+noted_place n lt = ap (λ b. cond b gone (to n)) (nat_eq_not n 4294967295 (λ e. absurd (omega (arith, lt, e))))
 
 abbrev block_in : Option (ℕ × List Framed) → ℕ
 block_in None = 0

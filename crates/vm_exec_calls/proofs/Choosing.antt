@@ -1,5 +1,5 @@
 -- Which function is called, and that its frame has room for its arguments.
-use Rattle.std.proofs.Common.{◌≡◌, ℕ, zero, suc, ◌+◌, ◌≤◌, true, false, cond, Option, Some, None, List, [], ◌∷◌, length, slice_get, refl}
+use Rattle.std.proofs.Common.{◌≡◌, ℕ, zero, suc, ◌+◌, ◌≤◌, cond, Option, Some, None, List, [], ◌∷◌, length, slice_get, refl}
 use Rattle.std.proofs.Common.{sym, ap, subst, ◌∙◌, arith}
 use Rattle.std.proofs.lemmas.Option.{slice_get_within, get_or_from_slice_get}
 use Rattle.std.proofs.lemmas.List.Elements.{All-get_or}
@@ -12,26 +12,11 @@ use Rattle.verse_value.specs.Val.{Val}
 use Rattle.verse_meaning_state.specs.State.{State}
 use Rattle.verse_meaning_state.specs.Waits.{eqn}
 use Rattle.verse_meaning_state.specs.Effects.{class_of}
+use Rattle.verse_meaning_state.proofs.Numbers.{eqn_same, eqn_not}
 use Rattle.verse_code_machine.specs.Frames.{taking, classed}
 use Rattle.vm_frames.specs.Framed.{Framed}
 use Rattle.vm_frames.specs.Calls.{many_of, with_many, popped_many}
 use Rattle.vm_exec_calls.specs.Calling.{chosen_of}
-
-eqn_is : (n m : ℕ) → eqn n m ≡ true → n ≡ m
-eqn_is zero zero e = refl
-eqn_is zero (suc m) e = absurd (cc)
-eqn_is (suc n) zero e = absurd (cc)
-eqn_is (suc n) (suc m) e = ap suc (eqn_is n m e)
-
-eqn_same : (n : ℕ) → eqn n n ≡ true
-eqn_same zero = refl
-eqn_same (suc n) = eqn_same n
-
-eqn_other : (n m : ℕ) → (n ≡ m → ⊥) → eqn n m ≡ false
-eqn_other zero zero d = absurd (d refl)
-eqn_other zero (suc m) d = refl
-eqn_other (suc n) zero d = refl
-eqn_other (suc n) (suc m) d = eqn_other n m (λ e. d (ap suc e))
 
 -- a function of a valid code has room for its arguments
 pub room_for : (c : Code) (i : ℕ) (f : Func) → Valid c → slice_get c.functions i ≡ Some f → f.params ≤ f.locals
@@ -43,7 +28,7 @@ pub takes_yes : (m : ℕ) (f : Func) (o : Option Func) → o ≡ Some f → f.pa
 takes_yes m f o e same = rw e (ap (λ b. cond b (Some f) None) (ap (λ k. eqn k m) same ∙ eqn_same m))
 
 pub takes_no : (m : ℕ) (f : Func) (o : Option Func) → o ≡ Some f → (f.params ≡ m → ⊥) → taking m o ≡ None
-takes_no m f o e other = rw e (ap (λ b. cond b (Some f) None) (eqn_other f.params m other))
+takes_no m f o e other = rw e (ap (λ b. cond b (Some f) None) (eqn_not f.params m other))
 
 -- how many were taken off
 

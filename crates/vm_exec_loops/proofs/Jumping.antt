@@ -4,14 +4,13 @@ use Rattle.std.proofs.Common.{◌∙◌, arith}
 use Rattle.verse_value.specs.Val.{Val, int}
 use Rattle.verse_value.specs.Val as val
 use Rattle.verse_value.specs.Equality.{val_eq}
-use Rattle.verse_value.proofs.EqualityLaw.{equality_is_tested}
 use Rattle.verse_value.specs.declared.runs.Ending.TheVariants as ending
 use Rattle.verse_meaning_state.specs.State.{State}
 use Rattle.verse_code_machine.specs.Tasks.{Who, World, Step, Next, Over, Frame}
-use Rattle.verse_code_machine.specs.Tasks as tasks
 use Rattle.verse_code_machine.specs.Frames as m
 use Rattle.verse_code_machine.specs.Frames.{on_there}
 use Rattle.verse_code_machine.specs.Acts.{on_domain, on_int}
+use Rattle.vm_ops.proofs.Equal.{other_is, same_is}
 use Rattle.tx_heap.specs.State.{State as Kept}
 use Rattle.trace_buf.specs.Trace.{Trace}
 use Rattle.vm_frames.specs.Framed.{Framed}
@@ -22,7 +21,7 @@ use Rattle.vm_running.specs.declared.runners.Did.TheVariants as did
 use Rattle.vm_running.specs.Views.{View, Aside, Ready, state_of, memories}
 use Rattle.vm_running.specs.Doings.{Doing, going, goes_to, goes_on, where_fits, spends, putting}
 use Rattle.vm_running.specs.Comes.{done, Ends, Comes, Leads}
-use Rattle.vm_running.proofs.Steps.{at, stays, sticks, fits_in, fits_none, ready_as, comes_by, moves}
+use Rattle.vm_running.proofs.Steps.{at, stays, sticks, fits_in, fits_none, ready_as, comes_by, moves, nowhere}
 use Rattle.vm_exec_loops.specs.Domains.{is_domain, is_int}
 
 -- to the label where the two differ
@@ -35,16 +34,6 @@ each_of l v w x s f fs = on_domain v s (putting l v (putting (suc l) (int (pos 0
 
 abbrev pub range_of : ℕ → Val → Val → Doing
 range_of l a b w x s f fs = on_int a s (on_int b s (putting l a (putting (suc l) b goes_on) w x s f fs))
-
-not_true : (b : Bool) → (b ≡ true → ⊥) → b ≡ false
-not_true true h = absurd (h refl)
-not_true false h = refl
-
-same_is : (a b : Val) → a ≡ b → val_eq a b ≡ true
-same_is a b same = (equality_is_tested a b).1 same
-
-other_is : (a b : Val) → (a ≡ b → ⊥) → val_eq a b ≡ false
-other_is a b other = not_true (val_eq a b) (λ e. other ((equality_is_tested a b).0 e))
 
 on_domain_at : (v : Val) (s : State) (q : Step) → on_domain v s q ≡ m.only_where (is_domain v) s q
 on_domain_at val.unit s q = refl
@@ -75,10 +64,6 @@ on_int_at (val.some v) s q = refl
 on_int_at (val.array vs) s q = refl
 on_int_at (val.mapping ps) s q = refl
 on_int_at (val.tuple vs) s q = refl
-
-nowhere : (b : Bool) (s : State) → m.only_where b s (tasks.stuck s) ≡ tasks.stuck s
-nowhere true s = refl
-nowhere false s = refl
 
 module _ (h : Kept) (tr : Trace) (l s n : ℕ) where
   range_at : (i : ℕ) (u v : Val) (f : Framed) (fs : List Framed) (a : Aside) (w : Who) (x : World) →

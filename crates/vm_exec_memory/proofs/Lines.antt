@@ -19,10 +19,12 @@ use Rattle.tx_heap.specs.State.{State as Kept}
 use Rattle.vm_frames.specs.Framed.{Framed}
 use Rattle.vm_running.specs.Views.{Aside, IsPast, Ready, line_of, state_of}
 use Rattle.verse_value.specs.declared.runs.Ending.TheVariants as ending
+use Rattle.verse_meaning_state.proofs.Lines.{printed_both}
 use Rattle.vm_running.specs.declared.runners.Did.TheVariants as did
 use Rattle.vm_running.specs.Doings.{effects}
 use Rattle.vm_running.specs.Comes.{Comes, Leads}
 use Rattle.vm_running.proofs.Steps.{at}
+use Rattle.vm_running.proofs.Lines.{kept_printed}
 use Rattle.vm_exec_memory.proofs.Effects.{effect_stuck, effects_lead}
 use Rattle.vm_exec_memory.specs.Effects.{bytes_in}
 
@@ -41,18 +43,7 @@ told_by (val.array vs) s = refl
 told_by (val.mapping ps) s = refl
 told_by (val.tuple vs) s = refl
 
--- the kept lines are printed alike
-kept_printed : (ks : List (ℕ × List ℕ)) → printed (map line_of ks) ≡ trace.printed ks
-kept_printed [] = refl
-kept_printed (k ∷ ks) = ap (λ bs. line_bytes k.0 k.1 ++ bs) (kept_printed ks)
-
-printed_both : (xs ys : List Line) → printed (xs ++ ys) ≡ printed xs ++ printed ys
-printed_both [] ys = refl
-printed_both (x ∷ xs) ys =
-    ap (λ bs. line_bytes x.moment x.bytes ++ bs) (printed_both xs ys) ∙
-    sym (append_assoc (line_bytes x.moment x.bytes) (printed xs) (printed ys))
-
-size_is : (past : List Line) (ks : List (ℕ × List ℕ)) →
+pub size_is : (past : List Line) (ks : List (ℕ × List ℕ)) →
     length (printed (past ++ map line_of ks)) ≡ length (printed past) + length (trace.printed ks)
 size_is past ks =
     ap length (printed_both past (map line_of ks)) ∙

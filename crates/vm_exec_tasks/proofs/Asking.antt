@@ -4,7 +4,6 @@ use Rattle.std.proofs.Common.{refl, sym, ap, subst, ◌∙◌, arith}
 use Rattle.verse_value.specs.Val.{Val}
 use Rattle.verse_value.specs.declared.runs.Ending.TheVariants as ending
 use Rattle.verse_meaning_state.specs.State.{Memory}
-use Rattle.verse_code_machine.specs.Tasks.{Frame}
 use Rattle.verse_code_machine.specs.Frames as m
 use Rattle.verse_code_machine.specs.Frames.{free}
 use Rattle.tx_heap.specs.State.{State as Kept}
@@ -14,6 +13,7 @@ use Rattle.vm_frames.specs.Framed.{Framed, place_of}
 use Rattle.vm_frames.specs.Calls.{permits, moved, pushed, with_stack, popped_from, popped, many_of, with_many, popped_many}
 use Rattle.vm_running.specs.Operands.{two_from, popped_two}
 use Rattle.vm_frames.specs.Machine.{note_of, frames_with, handlers_with, handlers_in, all_free, beyond}
+use Rattle.vm_frames.proofs.Whole.{free_below}
 use Rattle.vm_running.specs.declared.runners.Did.{Did}
 use Rattle.vm_running.specs.declared.runners.Did.TheVariants as did
 use Rattle.vm_running.specs.Views.{View, Ready, state_of, memories}
@@ -41,10 +41,6 @@ when_free go w x s f fs = m.only_where (free f.handlers f.life.noted fs) s (go w
 -- at the next place
 abbrev pub after_next : Doing → Doing
 after_next go w x s f fs = go w x s (record f { place = suc f.place }) fs
-
-free_below : (bl : List Frame) → free [] [] bl ≡ all_free bl
-free_below [] = refl
-free_below (f ∷ fs) = refl
 
 bare_from : (hs : List Handler) (ns : List ℕ) (f : Framed) (fs : List Framed) (ms : List Memory) →
     free (handlers_with f.born hs ms) (map note_of ns) (frames_with fs (beyond hs ms)) ≡ true →

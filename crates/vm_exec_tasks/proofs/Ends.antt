@@ -1,7 +1,8 @@
 -- Frames that end.
-use Rattle.std.proofs.Common.{◌≡◌, ◌≢◌, ℕ, zero, suc, Bool, true, false, cond, nat_eq, nat_lt, Option, Some, None, List, [], ◌∷◌, length}
+use Rattle.std.proofs.Common.{◌≡◌, ◌≢◌, ℕ, zero, suc, Bool, true, false, cond, nat_lt, Option, Some, None, List, [], ◌∷◌, length}
 use Rattle.std.proofs.Common.{map, refl, sym, ap, subst, ◌∙◌, arith}
 use Rattle.std.proofs.lemmas.Bool.Decides.{nat_tests}
+use Rattle.verse_base.proofs.Facts.{no_items, nat_eq_not}
 use Rattle.verse_code.specs.declared.codes.Code.{Code}
 use Rattle.verse_code.specs.declared.operations.Op.TheVariants as op
 use Rattle.verse_value.specs.Val.{Val}
@@ -47,10 +48,6 @@ clean_of fs = nothing (life_of 0 (defers_of fs) (noted_of fs)).defers (life_of 0
 
 abbrev pub ended_with : ℕ → Value → Ended
 ended_with born v = record { born = born; value = v }
-
-no_copies : {A : Type 0} (xs : List A) → length xs ≡ 0 → xs ≡ []
-no_copies [] e = refl
-no_copies (x ∷ xs) e = absurd (omega (arith, e))
 
 abbrev last_in : Option (Bool × List Framed) → Bool
 last_in None = true
@@ -139,9 +136,9 @@ module _ {h : Kept} {tr : Trace} {l s n : ℕ} where
       let marks = r.marks in
       record {
         none = none;
-        copies = no_copies h.copies (omega (arith, copies, count));
+        copies = no_items h.copies (omega (arith, copies, count));
         marks =
-            no_copies tr.marks (omega (arith, marks, count));
+            no_items tr.marks (omega (arith, marks, count));
         clock = r.clock;
       }
 
@@ -237,12 +234,6 @@ noted_length (n ∷ ns) = ap suc (noted_length ns)
 kept_is : (born : ℕ) (hs : List Handler) (ms : List Memory) → m.kept_noted (handlers_with born hs ms) ≡ kept_noted hs
 kept_is born [] ms = refl
 kept_is born (h ∷ hs) ms = noted_length h.noted
-
-equal_yes : (n : ℕ) → nat_eq n n ≡ true
-equal_yes n = grind (arith, nat_tests)
-
-equal_not : (n k : ℕ) → (n ≡ k → ⊥) → nat_eq n k ≡ false
-equal_not n k d = grind (arith, nat_tests)
 
 abbrev place_in : Option (ℕ × List Framed) → ℕ
 place_in None = 0
@@ -344,7 +335,7 @@ module _ {h : Kept} {tr : Trace} {l s n : ℕ} where
       Leads (back q) (at h tr l s n fs) (goes_to q) (at h tr l s n fs)
   back_to q [] r other = absurd (r.some refl)
   back_to q (f ∷ fs) r other =
-      let note : note_of q ≡ to q = ap (λ b. cond b gone (to q)) (equal_not q 4294967295 other) in
+      let note : note_of q ≡ to q = ap (λ b. cond b gone (to q)) (nat_eq_not q 4294967295 other) in
       stays r (λ a w x. ap (λ y. on_note y (λ q. done (goes_to q) a w x (at h tr l s n (f ∷ fs)))
       (done clearing_of a w x (at h tr l s n (f ∷ fs)))) note)
 

@@ -1,6 +1,6 @@
 -- What an operation on values comes to, by its shape.
 use Rattle.std.proofs.Common.{◌≡◌, ◌≢◌, ℕ, zero, suc, ◌<◌, Bool, true, false, Result, Ok, Err, IfOk, IfSome, IfNone, Option, Some, None}
-use Rattle.std.proofs.Common.{List, [], ◌∷◌, length, set, slice_get, if◌then◌else◌, refl, sym, ap, subst, ◌∙◌, arith}
+use Rattle.std.proofs.Common.{List, [], ◌∷◌, length, set, slice_get, if◌then◌else◌, refl, sym, ap, subst, ◌∙◌, arith, length-set}
 use Rattle.verse_base.specs.declared.places.Place.{Place}
 use Rattle.verse_base.specs.declared.refusals.Kind.{Kind}
 use Rattle.verse_value.specs.Val.{Val}
@@ -131,11 +131,6 @@ set_back [] i u w e = refl
 set_back (v ∷ vs) zero u w e = cc
 set_back (v ∷ vs) (suc i) u w e = ap (λ ws. v ∷ ws) (set_back vs i u w e)
 
-set_length : (vs : List Val) (i : ℕ) (v : Val) → length (set vs i v) ≡ length vs
-set_length [] i v = refl
-set_length (u ∷ vs) zero v = refl
-set_length (u ∷ vs) (suc i) v = ap suc (set_length vs i v)
-
 pub local_back : (i : ℕ) (u w : Val) (fs gs : List Framed) → slice_get (locals_of fs) i ≡ Some w → gs ≡ with_local i u fs →
     with_local i w gs ≡ fs
 local_back i u w [] gs there e = rw e refl
@@ -148,7 +143,7 @@ local_twice i u w (f ∷ fs) = ap (λ ls. record f { frame = record f.frame { lo
 
 local_length : (i : ℕ) (u : Val) (fs : List Framed) → length (locals_of (with_local i u fs)) ≡ length (locals_of fs)
 local_length i u [] = refl
-local_length i u (f ∷ fs) = set_length f.frame.locals i u
+local_length i u (f ∷ fs) = length-set f.frame.locals i u
 
 module _ {h : Kept} {tr : Trace} {l s n : ℕ} where
   pub ready_holding : (i : ℕ) (w : Val) (fs : List Framed) → Ready (at h tr l s n fs) → Ready (at h tr l s n (with_local i w fs))

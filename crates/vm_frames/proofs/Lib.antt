@@ -1,4 +1,4 @@
-mod Whole
+pub mod Whole
 mod Popped
 mod Anywhere
 mod Unwound

@@ -1,6 +1,6 @@
 -- What the arms of a group gave, one after the other.
 use Rattle.std.proofs.Common.{◌≡◌, ◌≢◌, ℕ, List, [], ◌∷◌, ◌++◌, map, reverse, Option, Some, None, is_some, refl, sym, ap, ◌∙◌}
-use Rattle.std.proofs.lemmas.List.{append-nil, reverse-append}
+use Rattle.std.proofs.lemmas.List.{append-nil, reverse-append, map-append}
 use Rattle.verse_value.specs.Val.{Val}
 use Rattle.verse_value.specs.View.{val_of, vals_of}
 use Rattle.verse_value.specs.declared.values.Value.{Value}
@@ -14,10 +14,6 @@ use Rattle.vm_tasks.specs.View.{part_of}
 pub behind_some : (v : Val) (o : Option (List Val)) → is_some (behind v o) ≡ is_some o
 behind_some v None = refl
 behind_some v (Some vs) = refl
-
-map_append : (a b : List Arm) → map part_of (a ++ b) ≡ map part_of a ++ map part_of b
-map_append [] b = refl
-map_append (x ∷ a) b = ap (λ w. part_of x ∷ w) (map_append a b)
 
 -- the first value, or another
 
@@ -44,12 +40,12 @@ first_past (runs k ∷ gs) n o = first_past gs n o
 pub first_did_last : (arms rest : List Arm) (v : Value) (o : Option Val) → arms ≡ rest ++ Did v ∷ [] →
     first_or (map part_of arms) o ≡ first_or (map part_of rest) (Some (val_of v))
 first_did_last arms rest v o e = ap (λ z. first_or (map part_of z) o) e ∙
-    (ap (λ z. first_or z o) (map_append rest (Did v ∷ [])) ∙ first_last (map part_of rest) (val_of v) o)
+    (ap (λ z. first_or z o) (map-append part_of rest (Did v ∷ [])) ∙ first_last (map part_of rest) (val_of v) o)
 
 pub first_runs_last : (arms rest : List Arm) (n : ℕ) (o : Option Val) → arms ≡ rest ++ Runs n ∷ [] →
     first_or (map part_of arms) o ≡ first_or (map part_of rest) o
 first_runs_last arms rest n o e = ap (λ z. first_or (map part_of z) o) e ∙
-    (ap (λ z. first_or z o) (map_append rest (Runs n ∷ [])) ∙ first_past (map part_of rest) n o)
+    (ap (λ z. first_or z o) (map-append part_of rest (Runs n ∷ [])) ∙ first_past (map part_of rest) n o)
 
 -- the values of all, before others
 
@@ -84,7 +80,7 @@ pub all_did_last : (arms rest : List Arm) (v : Value) (values more : List Value)
     with_more (all_did (map part_of arms)) (vals_of (reverse values)) ≡ with_more (all_did (map part_of rest)) (vals_of (reverse more))
 all_did_last arms rest v values more e is =
     ap (λ z. with_more (all_did (map part_of z)) (vals_of (reverse values))) e ∙
-    (ap (λ z. with_more (all_did z) (vals_of (reverse values))) (map_append rest (Did v ∷ [])) ∙
+    (ap (λ z. with_more (all_did z) (vals_of (reverse values))) (map-append part_of rest (Did v ∷ [])) ∙
     (all_last (map part_of rest) (val_of v) (vals_of (reverse values)) ∙ ap (λ z. with_more (all_did (map part_of rest)) (vals_of z))
     (sym (ap (λ z. reverse z) is ∙ reverse-append values (v ∷ [])))))
 
@@ -92,5 +88,5 @@ pub all_runs_last : (arms rest : List Arm) (n : ℕ) (values : List Value) (o : 
     with_more (all_did (map part_of arms)) (vals_of (reverse values)) ≡ o → o ≢ None → ⊥
 all_runs_last arms rest n values o e is some =
     some (sym is ∙ (ap (λ z. with_more (all_did (map part_of z)) (vals_of (reverse values))) e ∙
-    (ap (λ z. with_more (all_did z) (vals_of (reverse values))) (map_append rest (Runs n ∷ [])) ∙
+    (ap (λ z. with_more (all_did z) (vals_of (reverse values))) (map-append part_of rest (Runs n ∷ [])) ∙
     ap (λ z. with_more z (vals_of (reverse values))) (all_not (map part_of rest) n))))

@@ -1,6 +1,7 @@
 -- The arms of a group are cancelled, and its task goes on.
 use Rattle.std.proofs.Common.{◌≡◌, ℕ, Result, Ok, Err, IfOk, List, [], ◌∷◌, map, Option, Some, None, IsSome, option_map, refl, sym, ap}
 use Rattle.std.proofs.Common.{subst, ◌∙◌}
+use Rattle.std.proofs.lemmas.Option.{same_Some}
 use Rattle.task_tree.specs.Tasks.{Task, task_at, IsLive}
 use Rattle.task_tree.specs.Nested.{IsTree}
 use Rattle.verse_value.specs.View.{val_of}
@@ -81,9 +82,6 @@ abbrev or_this : {A : Type 0} → A → Option A → A
 or_this x None = x
 or_this x (Some y) = y
 
-item_of : {A : Type 0} (x y : A) → Some x ≡ Some y → x ≡ y
-item_of x y e = ap (λ o. or_this x o) e
-
 pub live_none : (id : ℕ) (tree : List (Task (Slot (List Framed)))) → IsLive id tree →
     None ≡ option_map (λ (t : Task (Slot (List Framed))). t.item) (task_at id tree) → ⊥
 live_none id tree live e = go (task_at id tree) live e
@@ -96,7 +94,7 @@ module _ {W : Type 0} (pending : W → List Pending) where
   pub began_of : (id : ℕ) (s : Slot (List Framed)) (t : Tasks W) →
       Some s ≡ option_map (λ (u : Task (Slot (List Framed))). u.item) (task_at id t.tree) → Began pending id s.since t
   began_of id s t e u at = ap (λ (z : Slot (List Framed)). z.since)
-      (sym (item_of s u.item (e ∙ ap (λ o. option_map (λ (u : Task (Slot (List Framed))). u.item) o) at)))
+      (sym (same_Some s u.item (e ∙ ap (λ o. option_map (λ (u : Task (Slot (List Framed))). u.item) o) at)))
 
 abbrev frames_of_it : After → List Framed
 frames_of_it (Resuming fs x) = fs
@@ -109,10 +107,10 @@ value_of_it v (Closing x) = x
 value_of_it v (Finishing x) = x
 
 pub same_frames : (fs gs : List Framed) (x y : Value) → Some (Resuming fs x) ≡ Some (Resuming gs y) → fs ≡ gs
-same_frames fs gs x y e = ap frames_of_it (item_of (Resuming fs x) (Resuming gs y) e)
+same_frames fs gs x y e = ap frames_of_it (same_Some (Resuming fs x) (Resuming gs y) e)
 
 pub same_value : (fs gs : List Framed) (x y : Value) → Some (Resuming fs x) ≡ Some (Resuming gs y) → x ≡ y
-same_value fs gs x y e = ap (λ a. value_of_it x a) (item_of (Resuming fs x) (Resuming gs y) e)
+same_value fs gs x y e = ap (λ a. value_of_it x a) (same_Some (Resuming fs x) (Resuming gs y) e)
 
 module _ {W : Type 0} (pending : W → List Pending) where
   pub resumes_as : {E : Type 0} (d : Result Went E) (id : ℕ) (fs gs : List Framed) (x y : Value) (u u2 : View) (t s : Tasks W) →

@@ -4,6 +4,7 @@ use Rattle.std.proofs.Common.{None, is_some, refl, sym, ap, subst, ◌∙◌}
 use Rattle.task_tree.specs.Tasks.{IsLive}
 use Rattle.task_tree.specs.Nested.{IsTree}
 use Rattle.verse_base.specs.declared.refusals.Kind as fault
+use Rattle.verse_base.proofs.Facts.{none_is}
 use Rattle.verse_value.specs.Val.{Val}
 use Rattle.verse_value.specs.Answer.{gives, fails, error, stuck}
 use Rattle.verse_value.specs.Operations.{tuple_of}
@@ -34,10 +35,6 @@ use Rattle.vm_scheduler.proofs.Running.{on_moves}
 use Rattle.vm_scheduler.proofs.Seated.{live_stands}
 use Rattle.vm_begin.specs.Arms.{BeginsArm}
 use Rattle.vm_group.specs.Groups.{on_rest, Hand, Settles, NextArm, ArmEnded, StandsThere, CancelsArms}
-
-not_some : {A : Type 0} (o : Option A) → is_some o ≡ false → o ≡ None
-not_some None e = refl
-not_some (Some x) e = absurd (cc)
 
 pub some_not : {A : Type 0} (o : Option A) → is_some o ≡ true → o ≢ None
 some_not None e n = absurd (cc)
@@ -85,7 +82,7 @@ module _ {W : Type 0} (pending : W → List Pending) where
         rest =
             m.group turns.sync b.place (map part_of b.arms.items);
       })) (λ vs. tupled b.place (tuple_of vs) (threaded w b.thread) o st))
-      (not_some (all_did (map part_of b.arms.items)) none)
+      (none_is (all_did (map part_of b.arms.items)) none)
   no_value Race b w o st stands e none = absurd (cc)
   no_value Rush b w o st stands e none = absurd (cc)
 
@@ -106,7 +103,7 @@ module _ {W : Type 0} (pending : W → List Pending) where
       }))
       (λ v. cancels (λ o s. resumes (threaded w b.thread) v o s) (resuming (threaded w b.thread) v)
       (beneath_arms w.path (map part_of b.arms.items)) o st))
-      (not_some (first_did (map part_of b.arms.items)) none)
+      (none_is (first_did (map part_of b.arms.items)) none)
   no_first Rush b w o st stands e none = absurd (cc)
 
   pub settles_not_first : (b : Begins) (r : Went) (v : View) (t s : Tasks W) → b.kind ≡ Race →
@@ -125,7 +122,7 @@ module _ {W : Type 0} (pending : W → List Pending) where
         rest =
             m.group turns.rush b.place (map part_of b.arms.items);
       })) (λ v. resumes (threaded w b.thread) v o st))
-      (not_some (first_did (map part_of b.arms.items)) none)
+      (none_is (first_did (map part_of b.arms.items)) none)
 
   pub settles_not_rush : (b : Begins) (r : Went) (v : View) (t s : Tasks W) → b.kind ≡ Rush →
       is_some (first_did (map part_of b.arms.items)) ≡ false → StandsThere pending b r v t s → Settles pending b r v t v s

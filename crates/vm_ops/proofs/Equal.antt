@@ -1,20 +1,17 @@
 -- Equal values, and unequal ones.
-use Rattle.std.proofs.Common.{◌≡◌, Bool, true, false, refl}
+use Rattle.std.proofs.Common.{◌≡◌, true, false, refl}
+use Rattle.std.proofs.lemmas.Bool.{false_from_ne_true}
 use Rattle.verse_value.specs.Val.{Val}
 use Rattle.verse_value.specs.Answer.{gives, fails}
 use Rattle.verse_value.specs.Equality.{val_eq}
 use Rattle.verse_value.specs.Operations.{equal_of, unequal_of}
 use Rattle.verse_value.proofs.EqualityLaw.{equality_is_tested}
 
-not_true : (b : Bool) → (b ≡ true → ⊥) → b ≡ false
-not_true true h = absurd (h refl)
-not_true false h = refl
-
-same_is : (a b : Val) → a ≡ b → val_eq a b ≡ true
+pub same_is : (a b : Val) → a ≡ b → val_eq a b ≡ true
 same_is a b same = (equality_is_tested a b).1 same
 
-other_is : (a b : Val) → (a ≡ b → ⊥) → val_eq a b ≡ false
-other_is a b other = not_true (val_eq a b) (λ e. other ((equality_is_tested a b).0 e))
+pub other_is : (a b : Val) → (a ≡ b → ⊥) → val_eq a b ≡ false
+other_is a b other = false_from_ne_true (val_eq a b) (λ e. other ((equality_is_tested a b).0 e))
 
 pub equal_gives : (a b : Val) → a ≡ b → equal_of a b ≡ gives a
 equal_gives a b same = rw (same_is a b same) refl

@@ -1,20 +1,12 @@
 -- A text from its parts, and what it weighs.
-use Rattle.std.proofs.Common.{◌≡◌, ℕ, ◌≤◌, ◌<◌, List, [], ◌∷◌, ◌++◌, length, Option, Some, None, true, false, nat_le, arith, refl}
+use Rattle.std.proofs.Common.{◌≡◌, ℕ, ◌≤◌, ◌<◌, List, ◌++◌, length, Option, Some, None, true, false, nat_le, arith, refl}
 use Rattle.std.proofs.lemmas.Bool.Decides.{nat_tests}
 use Rattle.verse_base.specs.declared.refusals.Kind.TheVariants.{Size}
 use Rattle.verse_value.specs.Val.{Val}
 use Rattle.verse_value.specs.Answer.{Answer, gives, error, stuck}
-use Rattle.verse_value.specs.Sizes.{weights, weight_of, levels_of, most_levels}
-use Rattle.verse_value.specs.Keys.{chars}
+use Rattle.verse_value.specs.Sizes.{weight_of, levels_of}
 use Rattle.verse_value.specs.Operations.{text_val, sized}
-
-chars_weigh : (bs : List ℕ) → weights (chars bs) ≡ length bs
-chars_weigh [] = refl
-chars_weigh (b ∷ bs) = omega (arith, chars_weigh bs)
-
-chars_flat : (bs : List ℕ) → most_levels (chars bs) ≤ 1
-chars_flat [] = omega arith
-chars_flat (b ∷ bs) = omega (arith, chars_flat bs)
+use Rattle.verse_value.proofs.Sums.{chars_weigh, chars_flat}
 
 flat : (bs : List ℕ) → nat_le (levels_of (text_val bs)) 200 ≡ true
 flat bs = let few : levels_of (text_val bs) ≤ 200 = omega (arith, chars_flat bs) in grind (arith, nat_tests)

@@ -1,9 +1,8 @@
 -- Lines that are drained.
 use Rattle.std.proofs.Common.{◌≡◌, ◌+◌, ℕ, suc, List, [], ◌∷◌, ◌++◌, length, map, drop, Option, Some, None, refl, sym, ap, subst, ◌∙◌}
-use Rattle.std.proofs.Common.{append_assoc, length-append, arith}
+use Rattle.std.proofs.Common.{length-append, arith}
 use Rattle.std.specs.Prelude.{IfSome}
 use Rattle.std.proofs.lemmas.List.{append-nil, drop_all}
-use Rattle.verse_base.specs.TraceLine.{line_bytes}
 use Rattle.verse_outside.specs.Held.{TookPrefix, with_more}
 use Rattle.verse_code.specs.declared.codes.Code.{Code}
 use Rattle.verse_value.specs.Runs.{Line, Run}
@@ -21,6 +20,8 @@ use Rattle.vm_tasks_laws.proofs.Ticks.{same_timed}
 use Rattle.vm_tasks_laws.specs.Clocks.{sleeping}
 use Rattle.vm_running.specs.Views.{Aside, line_of, state_of}
 use Rattle.vm_running.specs.Runners.{view_of}
+use Rattle.vm_running.proofs.Lines.{kept_printed}
+use Rattle.vm_exec_memory.proofs.Lines.{size_is}
 use Rattle.vm_tasks.specs.View.{slot_of}
 use Rattle.vm_scheduler.specs.Frames.{frames_in}
 use Rattle.vm_run.specs.declared.machines.Vm.{Vm}
@@ -28,22 +29,6 @@ use Rattle.vm_run.specs.Origins.{Origin, stage_after, whole_run}
 use Rattle.vm_run.specs.Standing.{Shows, LiveIs, IsEnd, IsResting, Holds, IsBound, At}
 use Rattle.vm_run.specs.Turning.{state_in, lines_after, TookPart, Turned, TurnedTo}
 use Rattle.vm_run.proofs.Standing.{counted}
-
-kept_printed : (ks : List (ℕ × List ℕ)) → printed (map line_of ks) ≡ trace.printed ks
-kept_printed [] = refl
-kept_printed (k ∷ ks) = ap (λ bs. line_bytes k.0 k.1 ++ bs) (kept_printed ks)
-
-printed_both : (xs ys : List Line) → printed (xs ++ ys) ≡ printed xs ++ printed ys
-printed_both [] ys = refl
-printed_both (x ∷ xs) ys =
-    ap (λ bs. line_bytes x.moment x.bytes ++ bs) (printed_both xs ys) ∙
-    sym (append_assoc (line_bytes x.moment x.bytes) (printed xs) (printed ys))
-
-size_is : (past : List Line) (ks : List (ℕ × List ℕ)) →
-    length (printed (past ++ map line_of ks)) ≡ length (printed past) + length (trace.printed ks)
-size_is past ks =
-    ap length (printed_both past (map line_of ks)) ∙
-    (length-append (printed past) (printed (map line_of ks)) ∙ ap (λ bs. length (printed past) + length bs) (kept_printed ks))
 
 length_lines : (ks : List (ℕ × List ℕ)) → length (map line_of ks) ≡ length ks
 length_lines [] = refl

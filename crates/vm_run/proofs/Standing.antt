@@ -2,6 +2,7 @@
 use Rattle.std.proofs.Common.{◌≡◌, ◌≢◌, ◌≤◌, ◌⊎◌, inl, inr, ℕ, zero, suc, List, [], ◌++◌, length, map, Option, Some, None, refl}
 use Rattle.std.proofs.Common.{sym, ap, subst, ◌∙◌}
 use Rattle.std.specs.Prelude.{ℤ, Result, IfOk, IfSome}
+use Rattle.std.proofs.lemmas.Result.{IfOk-weaker}
 use Rattle.verse_code.specs.declared.codes.Code.{Code}
 use Rattle.verse_code.specs.Validity.{Valid}
 use Rattle.verse_value.specs.Runs.{Line, Run}
@@ -27,7 +28,6 @@ use Rattle.vm_run.specs.Origins.{Origin, from_inputs, from_state, stage_after, w
 use Rattle.vm_run.specs.Standing.{Shows, LiveIs, IsEnd, IsResting, Holds, IsBound, At, Belongs, stands, lost}
 use Rattle.vm_run.specs.Turning.{ending_in, Turned}
 use Rattle.vm_run.specs.Reaching.{ended_in, Rested, Reached, CanBegin, Begins, CanTurn, Turns}
-use Rattle.vm_run.proofs.Reaching.{ok_to}
 use Rattle.vm_run.proofs.Origins.{next, one_more_turn, over_same}
 
 -- the parts of a run whose waits may count
@@ -195,7 +195,7 @@ module _ {H W : Type 0} (state : H → Kept) (pending : W → List Pending) wher
         IfOk r (λ p. Begins pending c ns m.bounds.steps p (view_of state n.run) n.tasks)) →
         IfOk r (λ p. Holds state pending (stage_after c origin steps until k) past (record n { phase = p }))
     it_began r (from_inputs ns) steps until zero past m n at is starts =
-        ok_to r (λ p h. began ns steps until past m n p at h) (starts ns at.holds.inputs)
+        IfOk-weaker r _ _ (λ p h. began ns steps until past m n p at h) (starts ns at.holds.inputs)
     it_began r (from_state s trees) steps until zero past m n at is starts = absurd (unbegun_not (going s trees) past m at.holds is)
     it_began r origin steps until (suc k) past m n at is starts =
         absurd (unbegun_not (stage_after c origin steps until k) past m at.holds is)

@@ -1,3 +1,4 @@
+pub mod Lines
 pub mod Handed
 pub mod Steps
 pub mod Unwinding

@@ -5,8 +5,8 @@
 //! with what an operation on values answers. `Views` and `Doings` of specs say what these are in
 //! the machine's definition.
 //!
-//! The public lemmas, which crates above cite, are those of `proofs/Steps`, and `proofs/Handed` of
-//! what calls hand out.
+//! The public lemmas, which crates above cite, are those of `proofs/Steps` and `proofs/Lines`, and
+//! `proofs/Handed` of what calls hand out.
 #![tactic(auto)]
 
 pub mod answering;

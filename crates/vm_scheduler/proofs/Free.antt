@@ -1,5 +1,6 @@
 -- Frames without handlers and noted places.
 use Rattle.std.proofs.Common.{◌≡◌, inl, inr, ℕ, true, false, List, [], ◌∷◌, length, map, refl, sym, ap, subst, ◌∙◌, arith}
+use Rattle.verse_base.proofs.Facts.{no_items}
 use Rattle.verse_value.specs.Val.{Val}
 use Rattle.verse_meaning_state.specs.State.{Memory}
 use Rattle.verse_code_machine.specs.Tasks.{Note, Handler, Frame}
@@ -8,6 +9,7 @@ use Rattle.fiber.specs.Frames as fiber
 use Rattle.vm_frames.specs.Framed.{Framed}
 use Rattle.vm_frames.specs.Calls.{pushed}
 use Rattle.vm_frames.specs.Machine.{note_of, handlers_with, frames_with, handlers_in, beyond, all_free}
+use Rattle.vm_frames.proofs.Whole.{free_below}
 use Rattle.vm_running.specs.Views.{View, Aside, Ready, frames_of, memories}
 use Rattle.vm_scheduler.specs.Frames.{birth, birth_of, NotGone, GoneFirst, EachKeeps, NoneGone, Closing, holds, is_guarded, AllAbove}
 use Rattle.vm_scheduler.specs.Standing.{Bare}
@@ -73,10 +75,6 @@ free_calm P (f ∷ fs) e =
 
 -- copies that are kept make none free, and none bound
 
-pub free_below : (bl : List Frame) → free [] [] bl ≡ all_free bl
-free_below [] = refl
-free_below (f ∷ fs) = refl
-
 free_top : (born : ℕ) (hs : List fiber.Handler) (ns : List ℕ) (ms ks : List Memory) (xs ys : List Frame) → all_free xs ≡ all_free ys →
     free (handlers_with born hs ms) (map note_of ns) xs ≡ free (handlers_with born hs ks) (map note_of ns) ys
 free_top born (h ∷ hs) ns ms ks xs ys e = refl
@@ -103,14 +101,10 @@ pushed_birth v [] = refl
 pushed_birth v (f ∷ []) = refl
 pushed_birth v (f ∷ g ∷ fs) = refl
 
-none_of : {A : Type 0} (xs : List A) → length xs ≡ 0 → xs ≡ []
-none_of [] e = refl
-none_of (x ∷ xs) e = absurd (omega (arith, e))
-
 pub bare_of : (v : View) → Ready v → all_free (frames_with v.frames []) ≡ true → Bare v
 bare_of v r free =
     let none = no_handlers v.frames [] free in
-    record { copies = none_of v.heap.copies (r.copies ∙ none); marks = none_of v.trace.marks (r.marks ∙ none); steps = r.clock }
+    record { copies = no_items v.heap.copies (r.copies ∙ none); marks = no_items v.trace.marks (r.marks ∙ none); steps = r.clock }
 
 pub frames_bare : (a : Aside) (v : View) → Bare v → frames_of a v ≡ frames_with v.frames []
 frames_bare a v b = ap (λ c. frames_with v.frames (memories a.past c v.trace.marks)) b.copies

@@ -7,9 +7,9 @@ use Rattle.task_tree.specs.Removing.{Added}
 use Rattle.task_tree.proofs.Standing.{found, beside, changed_here, without_at, absent_both, absent_head}
 use Rattle.verse_meaning_state.specs.State.{set_at}
 use Rattle.verse_meaning_state.specs.Waits.{eqn, nth}
+use Rattle.verse_meaning_state.proofs.Numbers.{eqn_is, eqn_same, nth_within}
 use Rattle.vm_frames.specs.Framed.{Framed}
 use Rattle.vm_tasks_laws.proofs.Lists.{Each, each_append, each_parts, each_weaker}
-use Rattle.vm_tasks_laws.proofs.Paths.{eqn_same, eqn_is}
 use Rattle.vm_tasks_laws.proofs.Wakings.{added_each, without_each}
 use Rattle.vm_tasks.specs.declared.slots.Slot.{Slot}
 use Rattle.vm_tasks.specs.declared.slots.Root.{Root}
@@ -118,11 +118,6 @@ unset_more (r ∷ rs) (suc e) k = unset_more rs e k
 unset_last : (rs : List (Option Given)) → nth (rs ++ None ∷ []) (length rs) ≡ Some None
 unset_last [] = refl
 unset_last (r ∷ rs) = unset_last rs
-
-pub nth_within : {A : Type 0} (xs : List A) (e : ℕ) (x : A) → nth xs e ≡ Some x → e < length xs
-nth_within [] e x k = absurd (cc)
-nth_within (y ∷ xs) zero x k = omega arith
-nth_within (y ∷ xs) (suc e) x k = let within = nth_within xs e x k in omega (arith, within)
 
 abbrev numbered : (ℕ → ℕ) → (entry id : ℕ) → ℕ → ℕ
 numbered n entry id e = cond (eqn e entry) id (n e)

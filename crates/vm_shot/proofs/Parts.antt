@@ -1,16 +1,16 @@
 -- The parts of what is kept of a machine, and those of the state that it stands for.
-use Rattle.std.proofs.Common.{◌≡◌, ℕ, ◌+◌, List, [], ◌∷◌, ◌++◌, length, map, Option, refl, sym, ap, ◌∙◌, arith, append_assoc}
+use Rattle.std.proofs.Common.{◌≡◌, ℕ, ◌+◌, List, [], ◌∷◌, ◌++◌, length, map, Option, refl, sym, ap, ◌∙◌, arith}
 use Rattle.std.proofs.Common.{length-append}
 use Rattle.task_tree.specs.Nested.{IsTree}
 use Rattle.trace_buf.specs.Trace as trace
 use Rattle.trace_buf.specs.Trace.{printed_size}
-use Rattle.verse_base.specs.TraceLine.{line_bytes}
-use Rattle.verse_value.specs.Runs.{Line}
 use Rattle.verse_value.specs.Store.{Store}
 use Rattle.verse_meaning_state.specs.State.{Given}
 use Rattle.verse_meaning_state.specs.Effects.{printed, printed_by}
+use Rattle.verse_meaning_state.proofs.Lines.{printed_both}
 use Rattle.sim_clock.specs.declared.waits.Pending.{Pending}
 use Rattle.vm_running.specs.Views.{View, Aside, IsPast, line_of, state_of}
+use Rattle.vm_running.proofs.Lines.{kept_printed}
 use Rattle.vm_tasks.specs.View.{slot_of}
 use Rattle.vm_scheduler.specs.declared.tasks.Tasks.{Tasks}
 use Rattle.vm_scheduler.specs.Frames.{frames_in}
@@ -20,16 +20,6 @@ use Rattle.vm_shot_laws.proofs.Walking.{tree_walked}
 use Rattle.vm_shot.specs.Spelling.{PartsAre, SpellsEach}
 
 -- ---- what was printed
-
-kept_printed : (ks : List (ℕ × List ℕ)) → printed (map line_of ks) ≡ trace.printed ks
-kept_printed [] = refl
-kept_printed (k ∷ ks) = ap (λ bs. line_bytes k.0 k.1 ++ bs) (kept_printed ks)
-
-printed_both : (xs ys : List Line) → printed (xs ++ ys) ≡ printed xs ++ printed ys
-printed_both [] ys = refl
-printed_both (x ∷ xs) ys =
-    ap (λ bs. line_bytes x.moment x.bytes ++ bs) (printed_both xs ys) ∙
-    sym (append_assoc (line_bytes x.moment x.bytes) (printed xs) (printed ys))
 
 bytes_are : (a : Aside) (v : View) → IsPast a v → printed_size v.trace ≡ printed_by (state_of a v)
 bytes_are a v p =

@@ -4,11 +4,13 @@ use Rattle.std.proofs.Common.{None, Bool, true, false, cond}
 use Rattle.std.proofs.Common.{refl, sym, ap, subst, ◌∙◌, arith, reverse, map, append_assoc}
 use Rattle.std.specs.Prelude.{slice_get, option_map, pred}
 use Rattle.std.proofs.lemmas.List.{reverse-reverse, reverse-append, map-append, append-nil}
+use Rattle.std.proofs.Math.Seq.{drop-length}
 use Rattle.verse_value.specs.Val.{Val}
 use Rattle.verse_value.specs.declared.values.Value.{Value}
 use Rattle.verse_value.specs.View.{val_of, vals_of}
 use Rattle.verse_meaning_state.specs.State.{Memory}
 use Rattle.verse_meaning_state.specs.Waits.{ltn}
+use Rattle.verse_meaning_state.proofs.Numbers.{ltn_yes, ltn_no}
 use Rattle.verse_code_machine.specs.Tasks.{Frame}
 use Rattle.fiber.specs.Frames.{Handler}
 use Rattle.vm_frames.specs.Framed.{Framed}
@@ -99,10 +101,6 @@ frames_step fs at arms xs ys all f some most e more so =
     ∙ (ap (λ g. map frame_of xs ++ g ∷ from_top 0 (drop (suc (length fs - at)) fs)) (sym o.kept)
     ∙ (ap (λ w. map frame_of xs ++ from_top arms w) (sym (drop_next fs (length fs - at) o.own o.is)) ∙ so))))
 
-drop_length : {A : Type 0} (xs : List A) → drop (length xs) xs ≡ []
-drop_length [] = refl
-drop_length (x ∷ xs) = drop_length xs
-
 -- all are looked through
 pub frames_over : (fs : List Framed) (at arms behind : ℕ) (xs ys : List FrameShot) → at ≡ 0 → ys ≡ reverse xs →
     map frame_of xs ++ from_top behind (drop (length fs - at) fs) ≡ from_top arms fs →
@@ -111,22 +109,12 @@ frames_over fs at arms behind xs ys e turns so =
     let none : length fs - at ≡ length fs = omega (arith, e) in
     let all : map frame_of xs ≡ from_top arms fs =
     sym (append-nil (map frame_of xs)) ∙
-    (ap (λ w. map frame_of xs ++ from_top behind w) (sym (ap (λ n. drop n fs) none ∙ drop_length fs)) ∙ so) in
+    (ap (λ w. map frame_of xs ++ from_top behind w) (sym (ap (λ n. drop n fs) none ∙ drop-length fs)) ∙ so) in
     ap (map frame_of) turns ∙ (sym (reverse_map frame_of xs) ∙ (ap (λ w. reverse w) all ∙ turned arms fs))
 
 born_is : (o : Option Framed) (b : ℕ) → option_map (λ (g : Framed). g.born) o ≡ Some b → (g : Framed) × (o ≡ Some g) × (g.born ≡ b)
 born_is None b e = absurd (cc)
 born_is (Some g) b e = (g, refl, (cc))
-
-ltn_yes : (n k : ℕ) → n < k → ltn n k ≡ true
-ltn_yes n zero h = absurd (omega (arith, h))
-ltn_yes zero (suc k) h = refl
-ltn_yes (suc n) (suc k) h = ltn_yes n k (omega (arith, h))
-
-ltn_no : (n k : ℕ) → k ≤ n → ltn n k ≡ false
-ltn_no n zero h = refl
-ltn_no zero (suc k) h = absurd (omega (arith, h))
-ltn_no (suc n) (suc k) h = ltn_no n k (omega (arith, h))
 
 module _ (n : ℕ) (fs : List Framed) (at b : ℕ) (some : 0 < at) (most : at ≤ length fs)
     (e : option_map (λ (g : Framed). g.born) (framed_at (at - 1) fs) ≡ Some b) where
@@ -160,7 +148,7 @@ pub depth_over : (n : ℕ) (fs : List Framed) (at before : ℕ) → at ≡ 0 →
     before + began_before n (drop (length fs - at) fs) ≡ began_before n fs → before ≡ began_before n fs
 depth_over n fs at before e so =
     let none : length fs - at ≡ length fs = omega (arith, e) in
-    let last : began_before n (drop (length fs - at) fs) ≡ 0 = ap (λ k. began_before n (drop k fs)) none ∙ ap (began_before n) (drop_length
+    let last : began_before n (drop (length fs - at) fs) ≡ 0 = ap (λ k. began_before n (drop k fs)) none ∙ ap (began_before n) (drop-length
     fs) in
     omega (arith, last, so)
 

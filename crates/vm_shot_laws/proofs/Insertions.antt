@@ -7,9 +7,9 @@ use Rattle.verse_meaning_state.specs.Waits.{eqn}
 use Rattle.verse_code_machine.specs.Tasks as m
 use Rattle.verse_code_machine.specs.Tasks.{same_path}
 use Rattle.verse_code_machine.specs.Runs.{Forest}
+use Rattle.verse_code_machine.proofs.Paths.{same_self}
 use Rattle.vm_tasks_laws.specs.Slots.{Slot, slept, Parent, no_parent, under, path_under}
 use Rattle.vm_tasks_laws.specs.Roses.{Rose, node, IsOne, Good, GoodTrees}
-use Rattle.vm_tasks_laws.proofs.Paths.{same_self}
 use Rattle.run_save_shots.specs.Keeping.{behind_parent, walked, walk}
 use Rattle.vm_shot_laws.proofs.Pairs.{Told, none_told, one_told, Arranged, none_arranged, empty_arranged}
 use Rattle.vm_shot_laws.proofs.Pairs.{tree_arranged}

@@ -9,15 +9,16 @@ use Rattle.task_tree.specs.Tasks.{Task, task_at}
 use Rattle.task_tree.specs.Nested.{Distinct, IsTree}
 use Rattle.task_tree.specs.declared.tasks.Role as r
 use Rattle.verse_meaning_state.specs.Waits.{eqn, ltn}
+use Rattle.verse_meaning_state.proofs.Numbers.{eqn_same}
 use Rattle.verse_code_machine.specs.Tasks as m
 use Rattle.verse_code_machine.specs.Tasks.{Frame, same_path}
 use Rattle.verse_code_machine.specs.Runs.{Forest}
+use Rattle.verse_code_machine.proofs.Paths.{same_self}
 use Rattle.vm_tasks_laws.specs.Slots.{Slot, Held, by_machine, by_itself, slept, Parent, no_parent, under}
 use Rattle.vm_tasks_laws.specs.Slots.{Shows}
 use Rattle.vm_tasks_laws.specs.Roses.{Rose, node, pre, pre_all, Good, GoodTrees}
 use Rattle.vm_tasks_laws.specs.Standing.{Rests}
 use Rattle.vm_tasks_laws.specs.Told.{AllPairs}
-use Rattle.vm_tasks_laws.proofs.Paths.{same_self, eqn_same}
 use Rattle.vm_tasks_laws.proofs.Trees.{good_dealt}
 use Rattle.run_save_shots.specs.Lists.{count, Reordered, no_elements, one_more}
 use Rattle.run_save_shots.specs.Kept.{KeptFrame, KeptRest, KeptTask}

@@ -15,9 +15,9 @@ use Rattle.sim_clock.specs.declared.waits.WaitKind.{WaitKind}
 use Rattle.sim_clock.specs.declared.waits.WaitKind.TheVariants as kind
 use Rattle.verse_value.specs.declared.values.Value.{Value}
 use Rattle.verse_meaning_state.specs.Waits.{eqn}
+use Rattle.verse_meaning_state.proofs.Numbers.{eqn_same, eqn_not}
 use Rattle.verse_code_machine.specs.Tasks.{Frame, Part, did, runs}
 use Rattle.vm_tasks_laws.specs.Clocks as clocks
-use Rattle.vm_tasks_laws.proofs.Paths.{eqn_same, eqn_other}
 use Rattle.vm_frames.specs.Framed.{Framed}
 use Rattle.vm_frames.specs.Machine.{frames_with}
 use Rattle.vm_tasks.specs.declared.slots.Slot.{Slot}
@@ -50,7 +50,7 @@ shifted b (Some k) = ap Some (more b k)
 same_test : (m n : ℕ) → nat_eq m n ≡ eqn n m
 same_test m n = elim (cases_eq m n) [
   | inl e ↦ eq-eqb m n e ∙ sym (subst (λ i. eqn n i ≡ true) (sym e) (eqn_same n))
-  | inr d ↦ ne_eqb m n d ∙ sym (eqn_other n m (λ e. d (sym e)))
+  | inr d ↦ ne_eqb m n d ∙ sym (eqn_not n m (λ e. d (sym e)))
 ]
 
 arms_from : (n b : ℕ) (arms : List Arm) → place_from n b arms ≡ option_map (λ k. b + k) (arm_of n (map part_of arms))

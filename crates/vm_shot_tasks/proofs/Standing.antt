@@ -4,8 +4,9 @@ use Rattle.std.proofs.Common.{Bool, true, false, refl, sym, ap, subst, ◌∙◌
 use Rattle.std.proofs.Common.{nat_eq, rules, take}
 use Rattle.std.specs.Prelude.{slice_get, option_map, eqb, IsSome, if◌then◌else◌, ◌||◌}
 use Rattle.std.specs.List.{list_any, position}
-use Rattle.std.proofs.lemmas.List.{map-append, length-append}
+use Rattle.std.proofs.lemmas.List.{map-append, length-append, length-map}
 use Rattle.std.proofs.lemmas.Bool.{eq-eqb, ne_eqb}
+use Rattle.verse_base.proofs.Facts.{get_mapped}
 use Rattle.task_tree.specs.Tasks.{Task, task_at, first, after}
 use Rattle.task_tree.specs.Nested.{Distinct, IsTree}
 use Rattle.task_tree.proofs.Standing.{beside, at_place, after_at, absent_head}
@@ -174,20 +175,11 @@ module _ {A : Type 0} where
       go (y ∷ ys) zero x e = ap (λ w. w ∷ []) (own_some e)
       go (y ∷ ys) (suc n) x e = ap (λ w. y ∷ w) (go ys n x e)
 
-pub length_map : {T K : Type 0} (kept : T → K) (ts : List T) → length (map kept ts) ≡ length ts
-length_map kept [] = refl
-length_map kept (t ∷ ts) = ap suc (length_map kept ts)
-
 take_all : {K : Type 0} (ks : List K) (n : ℕ) → length ks ≤ n → take n ks ≡ ks
 take_all [] zero h = refl
 take_all [] (suc n) h = refl
 take_all (k ∷ ks) zero h = absurd (omega (arith, h))
 take_all (k ∷ ks) (suc n) h = ap (λ w. k ∷ w) (take_all ks n (omega (arith, h)))
-
-map_at : {T K : Type 0} (kept : T → K) (ts : List T) (n : ℕ) (t : T) → slice_get ts n ≡ Some t → slice_get (map kept ts) n ≡ Some (kept t)
-map_at kept [] n t e = absurd (cc)
-map_at kept (u ∷ ts) zero t e = ap (λ t. Some (kept t)) (own_some e)
-map_at kept (u ∷ ts) (suc n) t e = map_at kept ts n t e
 
 module _ {T K X : Type 0} (kept : Task T → K) (seen : X → K) where
   -- one task more is kept
@@ -201,8 +193,8 @@ module _ {T K X : Type 0} (kept : Task T → K) (seen : X → K) where
       (map-append seen xs (x ∷ []) ∙
       (ap (λ w. w ++ seen x ∷ []) so ∙
       (ap (λ k. take n (map kept ts) ++ k ∷ []) (sym same) ∙
-      sym (take_next (map kept ts) n (kept p.task) (map_at kept ts n p.task p.there)))))
+      sym (take_next (map kept ts) n (kept p.task) (get_mapped kept ts n p.task p.there)))))
 
   pub all_kept : (ts : List (Task T)) (n : ℕ) (xs : List X) → length ts ≤ n → map seen xs ≡ take n (map kept ts) →
       map seen xs ≡ map kept ts
-  all_kept ts n xs h so = let l = length_map kept ts in so ∙ take_all (map kept ts) n (omega (arith, h, l))
+  all_kept ts n xs h so = let l = length-map ts kept in so ∙ take_all (map kept ts) n (omega (arith, h, l))

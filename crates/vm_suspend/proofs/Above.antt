@@ -2,7 +2,7 @@
 use Rattle.std.proofs.Common.{◌≡◌, ◌≢◌, ℕ, ◌<◌, ◌+◌, Result, Ok, Err, IfOk, List, [], ◌∷◌, ◌++◌, length, map, reverse, Some, None, refl}
 use Rattle.std.proofs.Common.{sym, ap, subst, ◌∙◌, arith}
 use Rattle.std.specs.Global.{Vec}
-use Rattle.std.proofs.lemmas.List.{length-append}
+use Rattle.std.proofs.lemmas.List.{length-append, map-append}
 use Rattle.verse_value.specs.Val.{Val, unit}
 use Rattle.verse_value.specs.Val as val
 use Rattle.verse_value.specs.Runs.{Line}
@@ -36,7 +36,7 @@ use Rattle.vm_suspend.specs.Rests.{Idle, RestsTo, Above, GoesUp, AboveGroup, Gro
 
 -- which one it is
 
-abbrev begins_or : Begins → Up → Begins
+abbrev pub begins_or : Begins → Up → Begins
 begins_or b (up.Begins c) = c
 begins_or b (up.Branching id fs) = b
 begins_or b (up.Spawning id fs entry) = b
@@ -46,30 +46,30 @@ id_or i (up.Begins c) = i
 id_or i (up.Branching id fs) = id
 id_or i (up.Spawning id fs entry) = id
 
-abbrev frames_or : List Framed → Up → List Framed
+abbrev pub frames_or : List Framed → Up → List Framed
 frames_or gs (up.Begins c) = gs
 frames_or gs (up.Branching id fs) = fs
 frames_or gs (up.Spawning id fs entry) = fs
 
-abbrev entry_or : ℕ → Up → ℕ
+abbrev pub entry_or : ℕ → Up → ℕ
 entry_or i (up.Begins c) = i
 entry_or i (up.Branching id fs) = i
 entry_or i (up.Spawning id fs entry) = entry
 
-abbrev first_or : Up → List Up → Up
+abbrev pub first_or : Up → List Up → Up
 first_or x [] = x
 first_or x (y ∷ ys) = y
 
-abbrev others_of : List Up → List Up
+abbrev pub others_of : List Up → List Up
 others_of [] = []
 others_of (y ∷ ys) = ys
 
-record BeginsAbove (b : Begins) (us : List Up) (ms : List m.Up) : Type 0 where
-  who : Who
-  later : List m.Up
-  is : ms ≡ begins_of who b ∷ later
-  suspended : Suspended who.number b.thread
-  are : UpsAre us later
+pub record BeginsAbove (b : Begins) (us : List Up) (ms : List m.Up) : Type 0 where
+  pub who : Who
+  pub later : List m.Up
+  pub is : ms ≡ begins_of who b ∷ later
+  pub suspended : Suspended who.number b.thread
+  pub are : UpsAre us later
 
 record BranchesAbove (id : ℕ) (fs : List Framed) (us : List Up) (ms : List m.Up) : Type 0 where
   who : Who
@@ -150,10 +150,6 @@ none_above all ms no_ups e = refl
 none_above all ms (begins_up c w s a) e = absurd (cc)
 none_above all ms (branching_up id fs w s a) e = absurd (cc)
 none_above all ms (spawning_up id fs entry w ps qs s a) e = absurd (cc)
-
-parts_append : (a b : List Arm) → map part_of (a ++ b) ≡ map part_of a ++ map part_of b
-parts_append [] b = refl
-parts_append (x ∷ a) b = ap (λ w. part_of x ∷ w) (parts_append a b)
 
 module _ {W : Type 0} (pending : W → List Pending) where
   abbrev with_ups : Tasks W → Vec Up → Tasks W
@@ -332,7 +328,7 @@ module _ {W : Type 0} (pending : W → List Pending) where
       AboveGroup pending b v t → Hand pending (record b { arms = arms }) v t
   hand_of b arms v t are x =
       let same : map part_of b.arms.items ++ runs b.number ∷ [] ≡ map part_of arms.items =
-      sym (ap (λ z. map part_of z) are ∙ parts_append b.arms.items (Runs b.number ∷ [])) in
+      sym (ap (λ z. map part_of z) are ∙ map-append part_of b.arms.items (Runs b.number ∷ [])) in
       record {
         aside = x.aside;
         who = x.who;
@@ -350,7 +346,7 @@ module _ {W : Type 0} (pending : W → List Pending) where
   next_goes (Err e) b arms v u t s are h = tt
   next_goes (Ok r) b arms v u t s are k =
       let same : map part_of arms.items ≡ map part_of b.arms.items ++ runs b.number ∷ [] =
-      ap (λ z. map part_of z) are ∙ parts_append b.arms.items (Runs b.number ∷ []) in
+      ap (λ z. map part_of z) are ∙ map-append part_of b.arms.items (Runs b.number ∷ []) in
       record {
         goes = λ a w o st bare sus.
             subst (λ z. Moves pending (next_arm (kind_of b.kind) b.place z (reverse b.labels.items)

@@ -1,10 +1,11 @@
 -- The running task falls asleep.
-use Rattle.std.proofs.Common.{◌≡◌, ◌≢◌, ℕ, zero, suc, true, Result, Ok, Err, IfOk, List, [], ◌∷◌, map, Option, None, option_map, refl, sym}
+use Rattle.std.proofs.Common.{◌≡◌, ◌≢◌, ℕ, suc, true, Result, Ok, Err, IfOk, List, [], ◌∷◌, map, Option, None, option_map, refl, sym}
 use Rattle.std.proofs.Common.{ap, subst, ◌∙◌}
 use Rattle.task_tree.specs.Nested.{IsTree}
 use Rattle.verse_meaning_state.specs.State.{State, drawn}
 use Rattle.verse_meaning_state.specs.State as state
 use Rattle.verse_meaning_state.specs.Waits.{waiting, nth}
+use Rattle.verse_meaning_state.proofs.Numbers.{nth_map}
 use Rattle.verse_code_machine.specs.Tasks.{Who, World, world, asleep}
 use Rattle.verse_code_machine.specs.Ends.{rested}
 use Rattle.sim_clock.specs.declared.waits.WaitKind.{WaitKind}
@@ -38,11 +39,6 @@ use Rattle.vm_scheduler.proofs.Seated.{seat, fine_reheld}
 use Rattle.vm_scheduler.proofs.Untold.{untold_reheld}
 use Rattle.vm_suspend.specs.Rests.{Idle, RestsTo}
 use Rattle.vm_suspend.specs.Asleep.{suspending, IsOpen}
-
-pub nth_map : {A B : Type 0} (f : A → B) (xs : List A) (n : ℕ) → nth (map f xs) n ≡ option_map f (nth xs n)
-nth_map f [] n = refl
-nth_map f (x ∷ xs) zero = refl
-nth_map f (x ∷ xs) (suc n) = nth_map f xs n
 
 -- what is known of a result in the clock, by what the tasks have
 pub result_at : (results : List (Option state.Given)) (ts : List (Option given.Given)) (n : ℕ) →

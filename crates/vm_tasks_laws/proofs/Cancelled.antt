@@ -5,6 +5,7 @@ use Rattle.std.proofs.lemmas.List.{append-nil}
 use Rattle.std.proofs.lemmas.Bool.{false≢true}
 use Rattle.task_tree.specs.Tasks.{Task}
 use Rattle.verse_meaning_state.specs.Waits.{eqn, ltn}
+use Rattle.verse_meaning_state.proofs.Numbers.{eqn_is, ltn_is_not, eqn_same, ltn_yes, ltn_no}
 use Rattle.verse_code_machine.specs.Tasks as m
 use Rattle.verse_code_machine.specs.Tasks.{Who, Part, did, runs, World, starts, since, beneath_arms}
 use Rattle.verse_code_machine.specs.Cancelling.{without, gone_before, cancelled}
@@ -15,7 +16,7 @@ use Rattle.vm_tasks_laws.specs.Standing.{Planted, onto_entries}
 use Rattle.vm_tasks_laws.specs.Cancelling.{younger, older, back_entries}
 use Rattle.vm_tasks_laws.specs.Told.{AllPairs, IsTold}
 use Rattle.vm_tasks_laws.proofs.Lists.{Each, each_append, each_parts, each_weaker}
-use Rattle.vm_tasks_laws.proofs.Paths.{eqn_is, eqn_same, ltn_yes, ltn_no, ltn_not, starts_front, starts_fork, Apart, forks, above}
+use Rattle.vm_tasks_laws.proofs.Paths.{starts_front, starts_fork, Apart, forks, above}
 use Rattle.vm_tasks_laws.proofs.Paths.{starts_apart}
 use Rattle.vm_tasks_laws.proofs.Paths.{since_apart, since_child}
 use Rattle.vm_tasks_laws.proofs.Holes.{before, after, parent_at, outside, Below, all_below, path_is}
@@ -74,7 +75,7 @@ module _ {T : Type 0} (slot : T → Slot) where
           Each (NotBelow q bound) (post (cond b empty (node t e k (older slot bound r))))
       go more true p = tt
       go more false p =
-          let least = ltn_not (number_of slot t) bound p in
+          let least = ltn_is_not (number_of slot t) bound p in
           let name = path_is slot q t e g.0 in
           each_append (NotBelow q bound) (post k) (e ∷ post (older slot bound r))
           (each_weaker (Below slot (under t e) (number_of slot t)) (NotBelow q bound) (post k) (λ x b. record {

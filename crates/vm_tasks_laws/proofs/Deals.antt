@@ -1,10 +1,10 @@
 -- Waits in two orders.
-use Rattle.std.proofs.Common.{◌≡◌, ℕ, Bool, true, false, cond, List, [], ◌∷◌, ◌++◌, map, length, Option, Some, None, refl, sym, ap, subst}
+use Rattle.std.proofs.Common.{◌≡◌, ℕ, Bool, true, false, cond, List, [], ◌∷◌, ◌++◌, map, length, refl, sym, ap, subst}
 use Rattle.std.proofs.Common.{◌∙◌, append_assoc, arith, length-append}
-use Rattle.std.proofs.lemmas.Bool.Decides.{nat_tests}
 use Rattle.task_tree.specs.Tasks.{Task}
-use Rattle.verse_meaning_state.specs.State.{State, Given}
-use Rattle.verse_meaning_state.specs.Waits.{Wait, eqn, has, Due, due_of, sooner, sooner_of, least}
+use Rattle.verse_meaning_state.specs.State.{State}
+use Rattle.verse_meaning_state.specs.Waits.{Wait, eqn, has, due_of, sooner_of, least}
+use Rattle.verse_meaning_state.proofs.Dues.{sooner_of_swaps}
 use Rattle.verse_code_machine.specs.Tasks as m
 use Rattle.verse_code_machine.specs.Tasks.{Rest, asleep, group, waits_with, waits_of, tree_waits}
 use Rattle.vm_tasks_laws.specs.Slots.{Slot, Held, by_machine, by_itself, Entry, slept, held, Parent, no_parent, under, number_of, Shows}
@@ -76,17 +76,6 @@ deal_has n xs zs (one_dealt {x = x} {xs = ys} f g p h) =
     order true true c = refl
     order true false c = refl
     order false b c = refl
-
--- which is sooner does not depend on their order
-pub sooner_swaps : (n k : ℕ) (g h : Given) (o : Option Due) → (n ≡ k → ⊥) → sooner n g (sooner k h o) ≡ sooner k h (sooner n g o)
-sooner_swaps n k g h None d = grind (arith, nat_tests)
-sooner_swaps n k g h (Some e) d = grind (arith, nat_tests)
-
-sooner_of_swaps : (n k : ℕ) (a b : Option Given) (o : Option Due) → (n ≡ k → ⊥) →
-    sooner_of n a (sooner_of k b o) ≡ sooner_of k b (sooner_of n a o)
-sooner_of_swaps n k None b o d = refl
-sooner_of_swaps n k (Some g) None o d = refl
-sooner_of_swaps n k (Some g) (Some h) o d = sooner_swaps n k g h o d
 
 least_move : (s : State) (f : List Wait) (x : Wait) (g : List Wait) → Each (λ v. v.number ≡ x.number → ⊥) f →
     least s (f ++ x ∷ g) ≡ sooner_of x.number (due_of s x.number x.cause) (least s (f ++ g))

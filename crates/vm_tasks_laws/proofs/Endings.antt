@@ -14,6 +14,7 @@ use Rattle.verse_code_machine.specs.Tasks.{Role, root, part, Who, Part, did, run
 use Rattle.verse_code_machine.specs.Tasks.{spawning}
 use Rattle.verse_code_machine.specs.Tasks.{clearing, Trees, World, world, onto, among, planted, same_path}
 use Rattle.verse_code_machine.specs.Ends.{is_run, with_did, climbs}
+use Rattle.verse_code_machine.proofs.Paths.{same_self}
 use Rattle.vm_tasks_laws.specs.Slots.{Slot, by_machine, Entry, slept, held, who_of, path_of, arms_of, Parent, no_parent, under, id_of}
 use Rattle.vm_tasks_laws.specs.Slots.{path_under, number_of, ArmedBy, RoleFits, Shows}
 use Rattle.vm_tasks_laws.specs.Roses.{Rose, empty, node, post, IsOne, Good, GoodTrees}
@@ -21,7 +22,7 @@ use Rattle.vm_tasks_laws.specs.Standing.{onto_entries, trees_entries, ups_entrie
 use Rattle.vm_tasks_laws.specs.Standing.{Stands, Rests}
 use Rattle.vm_tasks_laws.specs.Together.{passed, Joins}
 use Rattle.vm_tasks_laws.proofs.Lists.{Each, each_weaker}
-use Rattle.vm_tasks_laws.proofs.Paths.{same_self, same_beneath}
+use Rattle.vm_tasks_laws.proofs.Paths.{same_beneath}
 use Rattle.vm_tasks_laws.proofs.Holes.{Hole, top, beneath, behind, fill, after, parent_at, Below, all_below}
 use Rattle.vm_tasks_laws.proofs.Trees.{move, good_append, good_parts}
 use Rattle.vm_tasks_laws.proofs.Spots.{join, Spot}

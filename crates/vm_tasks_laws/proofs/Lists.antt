@@ -1,5 +1,8 @@
 -- Plain lists.
-use Rattle.std.proofs.Common.{◌≡◌, List, [], ◌∷◌, ◌++◌, refl, sym, ap, ◌∙◌}
+use Rattle.std.proofs.Common.{◌≡◌, List, [], ◌∷◌, ◌++◌, refl, sym, ap, ◌∙◌, map}
+use Rattle.verse_code_machine.specs.Tasks as m
+use Rattle.task_tree.specs.Tasks.{Task}
+use Rattle.vm_tasks_laws.specs.Slots.{slept}
 
 abbrev pub Each : {A : Type 0} → (A → Type 0) → List A → Type 0
 Each P [] = Unit {0}
@@ -42,3 +45,7 @@ module _ {A : Type 0} where
         | between p q r ↦ between (ap (λ w. w ∷ us) same ∙ ap (λ w. z ∷ w) p) q r
         | in_second m p q ↦ in_second m (ap (λ w. z ∷ w) p ∙ ap (λ w. w ∷ (us ++ y ∷ m)) (sym same)) q
       ]
+
+pub map_parts : (a : List m.Task) (y : m.Task) (b : List m.Task) → map slept (a ++ y ∷ b) ≡ map slept a ++ slept y ∷ map slept b
+map_parts [] y b = refl
+map_parts (x ∷ a) y b = ap (λ w. slept x ∷ w) (map_parts a y b)

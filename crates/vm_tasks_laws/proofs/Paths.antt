@@ -1,43 +1,8 @@
 -- The names of tasks: which begin with another.
-use Rattle.std.proofs.Common.{◌≡◌, ℕ, zero, suc, ◌<◌, ◌≤◌, List, [], ◌∷◌, ◌++◌, Bool, true, false, cond, refl, ap, ◌∙◌, arith}
-use Rattle.verse_meaning_state.specs.Waits.{eqn, ltn}
+use Rattle.std.proofs.Common.{◌≡◌, ℕ, List, [], ◌∷◌, ◌++◌, Bool, true, false, cond, refl, ap, ◌∙◌}
+use Rattle.verse_meaning_state.specs.Waits.{ltn}
+use Rattle.verse_meaning_state.proofs.Numbers.{eqn_same, eqn_not}
 use Rattle.verse_code_machine.specs.Tasks.{starts, same_path, since}
-
-pub eqn_same : (n : ℕ) → eqn n n ≡ true
-eqn_same zero = refl
-eqn_same (suc n) = eqn_same n
-
-pub eqn_other : (n m : ℕ) → (n ≡ m → ⊥) → eqn n m ≡ false
-eqn_other zero zero d = absurd (d refl)
-eqn_other zero (suc m) d = refl
-eqn_other (suc n) zero d = refl
-eqn_other (suc n) (suc m) d = eqn_other n m (λ e. d (ap suc e))
-
-pub eqn_is : (n m : ℕ) → eqn n m ≡ true → n ≡ m
-eqn_is zero zero e = refl
-eqn_is zero (suc m) e = absurd (cc)
-eqn_is (suc n) zero e = absurd (cc)
-eqn_is (suc n) (suc m) e = ap suc (eqn_is n m e)
-
-pub ltn_yes : (n m : ℕ) → n < m → ltn n m ≡ true
-ltn_yes n zero h = absurd (omega (arith, h))
-ltn_yes zero (suc m) h = refl
-ltn_yes (suc n) (suc m) h = ltn_yes n m (omega (arith, h))
-
-pub ltn_no : (n m : ℕ) → m ≤ n → ltn n m ≡ false
-ltn_no n zero h = refl
-ltn_no zero (suc m) h = absurd (omega (arith, h))
-ltn_no (suc n) (suc m) h = ltn_no n m (omega (arith, h))
-
-pub ltn_is : (n m : ℕ) → ltn n m ≡ true → n < m
-ltn_is n zero e = absurd (cc)
-ltn_is zero (suc m) e = omega arith
-ltn_is (suc n) (suc m) e = omega (arith, ltn_is n m e)
-
-pub ltn_not : (n m : ℕ) → ltn n m ≡ false → m ≤ n
-ltn_not n zero e = omega arith
-ltn_not zero (suc m) e = absurd (cc)
-ltn_not (suc n) (suc m) e = omega (arith, ltn_not n m e)
 
 abbrev here : Bool → Bool → Bool
 here b c = cond b c false
@@ -47,7 +12,7 @@ starts_front [] x = refl
 starts_front (i ∷ a) x = ap (λ b. here b (starts a (a ++ x))) (eqn_same i) ∙ starts_front a x
 
 pub starts_fork : (a : List ℕ) (i j : ℕ) (x y : List ℕ) → (i ≡ j → ⊥) → starts (a ++ i ∷ x) (a ++ j ∷ y) ≡ false
-starts_fork [] i j x y d = ap (λ b. here b (starts x y)) (eqn_other i j d)
+starts_fork [] i j x y d = ap (λ b. here b (starts x y)) (eqn_not i j d)
 starts_fork (k ∷ a) i j x y d = ap (λ b. here b (starts (a ++ i ∷ x) (a ++ j ∷ y))) (eqn_same k) ∙ starts_fork a i j x y d
 
 pub starts_above : (a : List ℕ) (i : ℕ) (x : List ℕ) → starts (a ++ i ∷ x) a ≡ false
@@ -63,16 +28,12 @@ since_self [] b = refl
 since_self (i ∷ a) b = ap (λ c. here c (since a b a)) (eqn_same i) ∙ since_self a b
 
 pub since_fork : (a : List ℕ) (b i j : ℕ) (x y : List ℕ) → (i ≡ j → ⊥) → since (a ++ i ∷ x) b (a ++ j ∷ y) ≡ false
-since_fork [] b i j x y d = ap (λ c. here c (since x b y)) (eqn_other i j d)
+since_fork [] b i j x y d = ap (λ c. here c (since x b y)) (eqn_not i j d)
 since_fork (k ∷ a) b i j x y d = ap (λ c. here c (since (a ++ i ∷ x) b (a ++ j ∷ y))) (eqn_same k) ∙ since_fork a b i j x y d
 
 pub since_above : (a : List ℕ) (b i : ℕ) (x : List ℕ) → since (a ++ i ∷ x) b a ≡ false
 since_above [] b i x = refl
 since_above (k ∷ a) b i x = ap (λ c. here c (since (a ++ i ∷ x) b a)) (eqn_same k) ∙ since_above a b i x
-
-pub same_self : (a : List ℕ) → same_path a a ≡ true
-same_self [] = refl
-same_self (i ∷ a) = ap (λ b. here b (same_path a a)) (eqn_same i) ∙ same_self a
 
 pub same_beneath : (a : List ℕ) (j : ℕ) (y : List ℕ) → same_path a (a ++ j ∷ y) ≡ false
 same_beneath [] j y = refl

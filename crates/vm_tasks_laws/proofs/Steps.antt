@@ -9,6 +9,7 @@ use Rattle.verse_base.specs.declared.places.Place.{Place}
 use Rattle.verse_value.specs.Val.{Val}
 use Rattle.verse_meaning_state.specs.Waits.{eqn, ltn}
 use Rattle.verse_meaning_state.specs.Turns.{Kind}
+use Rattle.verse_meaning_state.proofs.Numbers.{eqn_is, eqn_same, eqn_not, ltn_yes, ltn_no}
 use Rattle.verse_code_machine.specs.Tasks as m
 use Rattle.verse_code_machine.specs.Tasks.{Frame, Role, root, part, Who, Part, did, runs, Rest, asleep, group, Thread, thread, After, Up}
 use Rattle.verse_code_machine.specs.Tasks.{begins}
@@ -22,7 +23,6 @@ use Rattle.vm_tasks_laws.specs.Slots.{Shows}
 use Rattle.vm_tasks_laws.specs.Roses.{Rose, empty, node, pre, post}
 use Rattle.vm_tasks_laws.specs.Standing.{onto_entries, trees_entries, ups_entries, Planted, Stands}
 use Rattle.vm_tasks_laws.proofs.Lists.{Each}
-use Rattle.vm_tasks_laws.proofs.Paths.{eqn_is, eqn_same, eqn_other, ltn_yes, ltn_no}
 use Rattle.vm_tasks_laws.proofs.Spots.{Spot, fronts, backs}
 use Rattle.vm_tasks_laws.proofs.Changes.{Tops, tops_each, kids_each, reseated, reentered, grown}
 use Rattle.vm_tasks_laws.proofs.Mirror.{onto_append}
@@ -37,7 +37,7 @@ trees_append [] b = refl
 trees_append (ts ∷ a) b = ap (λ w. map slept ts ∷ w) (trees_append a b)
 
 pub is_run_more : (k n : ℕ) (gs : List Part) → (k ≡ n → ⊥) → is_run k (gs ++ runs n ∷ []) ≡ is_run k gs
-is_run_more k n [] d = ap (λ b. cond b true false) (eqn_other k n d)
+is_run_more k n [] d = ap (λ b. cond b true false) (eqn_not k n d)
 is_run_more k n (did v ∷ gs) d = is_run_more k n gs d
 is_run_more k n (runs i ∷ gs) d = ap (λ b. cond (eqn k i) true b) (is_run_more k n gs d)
 
@@ -62,7 +62,7 @@ is_run_with k n v (runs i ∷ gs) d = go (eqn n i) refl (is_run_with k n v gs d)
   where
     go : (b : Bool) → eqn n i ≡ b → is_run k (with_did n v gs) ≡ is_run k gs → is_run k (cond b (did v ∷ gs) (runs i ∷ with_did n v gs)) ≡
         cond (eqn k i) true (is_run k gs)
-    go true e h = sym (ap (λ b. cond b true (is_run k gs)) (eqn_other k i (λ p. d (p ∙ sym (eqn_is n i e)))))
+    go true e h = sym (ap (λ b. cond b true (is_run k gs)) (eqn_not k i (λ p. d (p ∙ sym (eqn_is n i e)))))
     go false e h = ap (λ b. cond (eqn k i) true b) h
 
 module _ {T : Type 0} (slot : T → Slot) where

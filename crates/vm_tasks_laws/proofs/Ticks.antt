@@ -1,12 +1,14 @@
 -- A clock's waits stay those of the definition: one more, one fewer, a signal, a result.
-use Rattle.std.proofs.Common.{◌≡◌, ◌⊎◌, inl, inr, ℕ, zero, suc, ◌<◌, ◌≤◌, Bool, true, false, cond, if◌then◌else◌, nat_eq, List, [], ◌∷◌}
+use Rattle.std.proofs.Common.{◌≡◌, inl, inr, ℕ, zero, suc, ◌<◌, ◌≤◌, Bool, true, false, cond, if◌then◌else◌, nat_eq, List, [], ◌∷◌}
 use Rattle.std.proofs.Common.{◌++◌, length, Option, Some, None, option_map, refl, sym, ap, subst, ◌∙◌, arith}
-use Rattle.std.proofs.lemmas.Bool.Decides.{nat_tests}
+use Rattle.std.proofs.lemmas.Bool.{cases_eq}
+use Rattle.verse_base.proofs.Facts.{nat_eq_same, nat_eq_not}
 use Rattle.task_tree.proofs.Standing.{never}
 use Rattle.verse_value.specs.Val.{Val, unit}
 use Rattle.verse_meaning_state.specs.State.{State, Given, Signal, signalled, with_result, with_entry, set_at, drawn}
 use Rattle.verse_meaning_state.specs.Waits.{Wait, Cause, till, never as forever, done, heard, eqn, ltn, nth, first_signal, given_by, Due}
 use Rattle.verse_meaning_state.specs.Waits.{due_of}
+use Rattle.verse_meaning_state.proofs.Numbers.{eqn_same, eqn_not, ltn_yes, ltn_no, nth_first}
 use Rattle.sim_clock.specs.declared.waits.Wait.{Wait as ClockWait}
 use Rattle.sim_clock.specs.declared.waits.WaitKind.{WaitKind}
 use Rattle.sim_clock.specs.declared.waits.WaitKind.TheVariants.{At, Never, Task as OnTask, Event}
@@ -18,7 +20,6 @@ use Rattle.vm_tasks_laws.specs.Standing.{Deal, one_dealt}
 use Rattle.vm_tasks_laws.specs.Clocks.{cause_of, wait_of, value_for, IsDue, IsTimed, AllTimed, AllAbove, Rising, NoneNewer, told, Timed}
 use Rattle.vm_tasks_laws.specs.Clocks.{NextIs}
 use Rattle.vm_tasks_laws.proofs.Lists.{in_first, between, in_second, cut}
-use Rattle.vm_tasks_laws.proofs.Paths.{eqn_same, eqn_other, eqn_is, ltn_yes, ltn_no}
 use Rattle.vm_tasks_laws.proofs.Trees.{move, move_back, deal_first}
 
 -- what is due, in another state
@@ -28,11 +29,6 @@ move_due s u c None None f h = tt
 move_due s u c None (Some w) f h = absurd h
 move_due s u c (Some g) None f h = absurd h
 move_due s u c (Some g) (Some w) f h = (h.0, f w.cause g.value h.1)
-
-nth_some : {A : Type 0} (xs ys : List A) (n : ℕ) (x : A) → nth xs n ≡ Some x → nth (xs ++ ys) n ≡ Some x
-nth_some [] ys n x h = absurd (never h)
-nth_some (y ∷ xs) ys zero x h = h
-nth_some (y ∷ xs) ys (suc n) x h = nth_some xs ys n x h
 
 nth_last : {A : Type 0} (xs : List A) (x : A) → nth (xs ++ x ∷ []) (length xs) ≡ Some x
 nth_last [] x = refl
@@ -64,7 +60,7 @@ some_value None v h = absurd (never h)
 some_value (Some g) v h = (g, refl)
 
 kept_signal : (gs hs : List Signal) (k : ℕ) (v : Val) → with_value (nth gs k) ≡ Some v → with_value (nth (gs ++ hs) k) ≡ Some v
-kept_signal gs hs k v h = let r = some_value (nth gs k) v h in ap with_value (nth_some gs hs k r.0 r.1) ∙ (sym (ap with_value r.1) ∙ h)
+kept_signal gs hs k v h = let r = some_value (nth gs k) v h in ap with_value (nth_first gs hs k r.0 r.1) ∙ (sym (ap with_value r.1) ∙ h)
 
 abbrev or_given : Option Given → Option Given → Option Given
 or_given None o = o
@@ -100,22 +96,6 @@ newer_more n k (g ∷ gs) le h = (omega (arith, le, h.0), newer_more n k gs le h
 newer_append : (n : ℕ) (gs : List Signal) (g : Signal) → NoneNewer n gs → g.next ≤ n → NoneNewer n (gs ++ g ∷ [])
 newer_append n [] g h k = (k, tt)
 newer_append n (x ∷ gs) g h k = (h.0, newer_append n gs g h.1 k)
-
-equal_yes : (n : ℕ) → nat_eq n n ≡ true
-equal_yes n = grind (arith, nat_tests)
-
-equal_not : (n k : ℕ) → (n ≡ k → ⊥) → nat_eq n k ≡ false
-equal_not n k d = grind (arith, nat_tests)
-
-same_or_not : (n k : ℕ) → (n ≡ k) ⊎ (n ≡ k → ⊥)
-same_or_not n k = go (eqn n k) refl
-  where
-    go : (b : Bool) → eqn n k ≡ b → (n ≡ k) ⊎ (n ≡ k → ⊥)
-    go true e = inl (eqn_is n k e)
-    go false e = inr (λ h. absurd (cc_false (sym e ∙ (ap (λ i. eqn n i) (sym h) ∙ eqn_same n))))
-      where
-        cc_false : false ≡ true → ⊥
-        cc_false p = absurd (cc)
 
 -- a signal is sent
 abbrev woken_wake : Bool → Option Wake → Wake → Option Wake
@@ -153,7 +133,7 @@ signal_due s e v n (Event c) w l h =
         stays : (b : Bool) → Some z ≡ woken_wake b (Some z) (record { at = s.clock.now; cause = length s.clock.signals })
         stays true = refl
         stays false = refl
-    go None None h = elim (same_or_not c e) [
+    go None None h = elim (cases_eq c e) [
       | inl p ↦
           subst (λ b. IsDue (cond b (cond (ltn n s.clock.next) (Some (record { value = v; moment = s.clock.now })) None) None)
           (signalled e v s) (heard c) (woken_wake (nat_eq c e) None (record { at = s.clock.now; cause = length s.clock.signals })))
@@ -162,13 +142,13 @@ signal_due s e v n (Event c) w l h =
           (woken_wake (nat_eq c e) None (record { at = s.clock.now; cause = length s.clock.signals }))) (sym (ltn_yes n s.clock.next l))
           (subst (λ b. IsDue (Some (record { value = v; moment = s.clock.now })) (signalled e v s) (heard c)
           (woken_wake b None (record { at = s.clock.now; cause = length s.clock.signals })))
-          (sym (ap (λ i. nat_eq c i) (sym p) ∙ equal_yes c)) (refl, ap with_value (nth_last s.clock.signals _))))
+          (sym (ap (λ i. nat_eq c i) (sym p) ∙ nat_eq_same c)) (refl, ap with_value (nth_last s.clock.signals _))))
       | inr d ↦
           subst (λ b. IsDue (cond b (cond (ltn n s.clock.next) (Some (record { value = v; moment = s.clock.now })) None) None)
           (signalled e v s) (heard c) (woken_wake (nat_eq c e) None (record { at = s.clock.now; cause = length s.clock.signals })))
-          (sym (eqn_other c e d))
+          (sym (eqn_not c e d))
           (subst (λ b. IsDue None (signalled e v s) (heard c)
-          (woken_wake b None (record { at = s.clock.now; cause = length s.clock.signals }))) (sym (equal_not c e d)) tt)
+          (woken_wake b None (record { at = s.clock.now; cause = length s.clock.signals }))) (sym (nat_eq_not c e d)) tt)
     ]
 
 -- a spawned task has given a value
@@ -180,7 +160,7 @@ result_due s e v n (At t) w r h = move_due s (with_result (Some e) v s) (till t)
     (λ k x p. p) h
 result_due s e v n Never w r h = move_due s (with_result (Some e) v s) forever None w (λ k x p. p) h
 result_due s e v n (Event c) w r h = move_due s (with_result (Some e) v s) (heard c) (first_signal s.clock.signals c n) w (λ k x p. p) h
-result_due s e v n (OnTask t) w r h = elim (same_or_not t e) [
+result_due s e v n (OnTask t) w r h = elim (cases_eq t e) [
   | inl p ↦
       let none : IsDue None s (done t) w = subst (λ o. IsDue o s (done t) w) (ap given_by (ap (λ i. nth s.clock.results i) p ∙ r)) h in
       let there : nth (set_at s.clock.results e (Some (record { value = v; moment = s.clock.now }))) t ≡
@@ -190,7 +170,7 @@ result_due s e v n (OnTask t) w r h = elim (same_or_not t e) [
       subst (λ o. IsDue o (with_result (Some e) v s) (done t) (woken_wake (nat_eq t e) w (record { at = s.clock.now; cause = 0 })))
       (sym (ap given_by there))
       (subst (λ b. IsDue (Some (record { value = v; moment = s.clock.now })) (with_result (Some e) v s) (done t)
-      (woken_wake b w (record { at = s.clock.now; cause = 0 }))) (sym (ap (λ i. nat_eq t i) (sym p) ∙ equal_yes t))
+      (woken_wake b w (record { at = s.clock.now; cause = 0 }))) (sym (ap (λ i. nat_eq t i) (sym p) ∙ nat_eq_same t))
       (first w none (ap (λ (o : Option (Option Given)). option_map (λ (g : Given). g.value) (given_by o)) there)))
   | inr d ↦
       let same : nth (set_at s.clock.results e (Some (record { value = v; moment = s.clock.now }))) t ≡ nth s.clock.results t =
@@ -198,7 +178,7 @@ result_due s e v n (OnTask t) w r h = elim (same_or_not t e) [
       subst (λ o. IsDue o (with_result (Some e) v s) (done t) (woken_wake (nat_eq t e) w (record { at = s.clock.now; cause = 0 })))
       (sym (ap given_by same))
       (subst (λ b. IsDue (given_by (nth s.clock.results t)) (with_result (Some e) v s) (done t)
-      (woken_wake b w (record { at = s.clock.now; cause = 0 }))) (sym (equal_not t e d))
+      (woken_wake b w (record { at = s.clock.now; cause = 0 }))) (sym (nat_eq_not t e d))
       (move_due s (with_result (Some e) v s) (done t) (given_by (nth s.clock.results t)) w
       (λ k x q. ap (λ (o : Option (Option Given)). option_map (λ (g : Given). g.value) (given_by o)) same ∙ q) h))
 ]
@@ -470,10 +450,10 @@ rising_same ps f g c d p q r i j n = elim (cut f p g c q d (sym i ∙ j)) [
 ]
 
 removed_at : (f g : List Pending) (p : Pending) → Rising (f ++ p ∷ g) → removed p.wait.number (f ++ p ∷ g) ≡ f ++ g
-removed_at [] g p r = ap (λ b. if b then g else p ∷ removed p.wait.number g) (equal_yes p.wait.number)
+removed_at [] g p r = ap (λ b. if b then g else p ∷ removed p.wait.number g) (nat_eq_same p.wait.number)
 removed_at (x ∷ f) g p r =
     ap (λ b. if b then (f ++ p ∷ g) else x ∷ removed p.wait.number (f ++ p ∷ g))
-    (equal_not x.wait.number p.wait.number (λ e. absurd (omega (arith, rising_less [] f g x p r, e)))) ∙
+    (nat_eq_not x.wait.number p.wait.number (λ e. absurd (omega (arith, rising_less [] f g x p r, e)))) ∙
     ap (λ w. x ∷ w) (removed_at f g p r.1)
 
 above_parts : (n : ℕ) (f g : List Pending) (p : Pending) → AllAbove n (f ++ p ∷ g) → AllAbove n (f ++ g)

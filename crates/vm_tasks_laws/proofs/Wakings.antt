@@ -7,6 +7,7 @@ use Rattle.task_tree.specs.Removing.{Added}
 use Rattle.task_tree.proofs.Standing.{found, beside, changed_here, without_at}
 use Rattle.verse_meaning_state.specs.State.{State}
 use Rattle.verse_meaning_state.specs.Waits.{Wait, eqn, has, Due}
+use Rattle.verse_meaning_state.proofs.Numbers.{eqn_is, eqn_same}
 use Rattle.verse_code_machine.specs.Tasks as m
 use Rattle.verse_code_machine.specs.Tasks.{Frame, Who, Part, Rest, asleep, group, Thread, World, world, waits_of, tree_waits}
 use Rattle.sim_clock.specs.declared.waits.Pending.{Pending}
@@ -17,8 +18,7 @@ use Rattle.vm_tasks_laws.specs.Standing.{trees_entries, Deal, Shown, Planted, St
 use Rattle.vm_tasks_laws.specs.Clocks.{told, waits_told, with_held, sleeping, Timed, NextIs}
 use Rattle.vm_tasks_laws.specs.Clocks.{all_removed}
 use Rattle.vm_tasks_laws.specs.Together.{passed, Wakes}
-use Rattle.vm_tasks_laws.proofs.Lists.{Each, each_append, each_parts}
-use Rattle.vm_tasks_laws.proofs.Paths.{eqn_is, eqn_same}
+use Rattle.vm_tasks_laws.proofs.Lists.{Each, each_append, each_parts, map_parts}
 use Rattle.vm_tasks_laws.proofs.Trees.{move_back, good_append, good_parts}
 use Rattle.vm_tasks_laws.proofs.Spots.{spot_of}
 use Rattle.vm_tasks_laws.proofs.Changes.{Tops, reseated}
@@ -140,10 +140,6 @@ module _ {T : Type 0} (slot : T → Slot) where
       go : (b : Bool) → cond b true true ≡ true
       go true = refl
       go false = refl
-
-  map_parts : (a : List m.Task) (y : m.Task) (b : List m.Task) → map slept (a ++ y ∷ b) ≡ map slept a ++ slept y ∷ map slept b
-  map_parts [] y b = refl
-  map_parts (x ∷ a) y b = ap (λ w. slept x ∷ w) (map_parts a y b)
 
   all_tops : (k : Rose T) → Tops slot (λ n. Unit {0}) k
   all_tops empty = tt

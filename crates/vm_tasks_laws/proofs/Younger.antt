@@ -11,10 +11,10 @@ use Rattle.task_tree.proofs.Ending.{block_children}
 use Rattle.task_tree.proofs.Cancelling.{block_parts}
 use Rattle.task_tree.proofs.Background.{parts_same}
 use Rattle.verse_meaning_state.specs.Waits.{ltn}
+use Rattle.verse_meaning_state.proofs.Numbers.{ltn_is, ltn_yes, ltn_no}
 use Rattle.vm_tasks_laws.specs.Slots.{Slot, Entry, Parent, no_parent, under, number_of, Seen}
 use Rattle.vm_tasks_laws.specs.Roses.{Rose, empty, node, pre, post, IsOne, pre_all, Good}
 use Rattle.vm_tasks_laws.specs.Cancelling.{CancelsSince, none_younger, one_younger, younger, older}
-use Rattle.vm_tasks_laws.proofs.Paths.{ltn_yes, ltn_no, ltn_is}
 use Rattle.vm_tasks_laws.proofs.Holes.{Hole, beneath, behind, fill, front, back, before, after, parent_at, good_in, good_out}
 use Rattle.vm_tasks_laws.proofs.Trees.{forest_of}
 use Rattle.vm_tasks_laws.proofs.Spots.{join, pre_join, Spot, fronts, backs, block, alone}

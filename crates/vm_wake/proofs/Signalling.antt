@@ -1,6 +1,7 @@
 -- An event is signalled, and the running task goes on.
-use Rattle.std.proofs.Common.{◌≡◌, ◌≢◌, inl, inr, ℕ, List, [], ◌∷◌, ◌++◌, map, length, refl, sym, ap, subst, ◌∙◌, arith}
+use Rattle.std.proofs.Common.{◌≡◌, ◌≢◌, inl, inr, ℕ, List, [], ◌∷◌, ◌++◌, map, length, refl, sym, ap, subst, ◌∙◌}
 use Rattle.std.specs.Global.{Vec}
+use Rattle.std.proofs.lemmas.List.{map-append, length-map}
 use Rattle.verse_value.specs.Val.{Val}
 use Rattle.verse_value.specs.View.{val_of}
 use Rattle.verse_value.specs.declared.values.Value.{Value}
@@ -24,14 +25,6 @@ use Rattle.vm_scheduler.specs.Going.{Scene, Own, Clearing, Going}
 use Rattle.vm_scheduler.specs.Meets.{Comes}
 use Rattle.vm_wake.specs.Signals.{signals}
 
-map_append : {A B : Type 0} (f : A → B) (a b : List A) → map f (a ++ b) ≡ map f a ++ map f b
-map_append f [] b = refl
-map_append f (x ∷ a) b = ap (λ w. f x ∷ w) (map_append f a b)
-
-map_length : {A B : Type 0} (f : A → B) (xs : List A) → length (map f xs) ≡ length xs
-map_length f [] = refl
-map_length f (x ∷ xs) = omega (arith, map_length f xs)
-
 -- one more signal
 abbrev signal_of : ℕ → Val → ℕ → ℕ → Signal
 signal_of event x next moment = record { event = event; next = next; given = record { value = x; moment = moment } }
@@ -52,16 +45,16 @@ module _ {W : Type 0} (pending : W → List Pending) where
     told_clock : (a : Aside) → Clocked pending a v t → Clocked pending (told_aside a) v told_tasks
     told_clock a c =
         let count : length a.signals ≡ length t.signals.items =
-        sym (map_length (λ (g : Signal). g.given.value) a.signals) ∙ (ap (λ z. length z) c.signals ∙ map_length val_of t.signals.items) in
+        sym (length-map a.signals (λ (g : Signal). g.given.value)) ∙ (ap (λ z. length z) c.signals ∙ length-map t.signals.items val_of) in
         let same : woken (Event event) (record { at = v.moment; cause = length a.signals }) (pending t.gone.waits) ≡ pending waits =
         ap (λ n. woken (Event event) (record { at = v.moment; cause = n }) (pending t.gone.waits)) count ∙ sym woke in
         record {
           past = c.past;
           next = c.next;
           results = c.results;
-          signals = map_append (λ (g : Signal). g.given.value) a.signals (signal_of event (val_of x) a.next v.moment ∷ []) ∙
+          signals = map-append (λ (g : Signal). g.given.value) a.signals (signal_of event (val_of x) a.next v.moment ∷ []) ∙
               (ap (λ z. z ++ val_of x ∷ []) c.signals ∙
-              (sym (map_append val_of t.signals.items (x ∷ [])) ∙ ap (λ z. map val_of z) (sym more)));
+              (sym (map-append val_of t.signals.items (x ∷ [])) ∙ ap (λ z. map val_of z) (sym more)));
           timed = subst (λ ps. Timed (sleeping (slot_of frames_in) t.tree) ps (signalled event (val_of x) (state_of a v))) same
               (signal_timed (sleeping (slot_of frames_in) t.tree) (pending t.gone.waits) (state_of a v) event (val_of x) c.timed);
           fine = c.fine;

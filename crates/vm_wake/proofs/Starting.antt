@@ -4,14 +4,13 @@ use Rattle.std.proofs.Common.{arith}
 use Rattle.std.proofs.lemmas.List.{append-nil}
 use Rattle.task_tree.specs.Tasks.{Task}
 use Rattle.verse_code.specs.declared.codes.Func.{Func}
-use Rattle.verse_value.specs.Val.{Val, int, array, vals, unit}
+use Rattle.verse_value.specs.Val.{Val, int, array, vals}
 use Rattle.verse_value.specs.View.{val_of}
 use Rattle.verse_value.specs.declared.runs.Ending.TheVariants as ending
 use Rattle.verse_meaning_state.specs.State.{State, begun, spending}
 use Rattle.verse_code_machine.specs.Tasks.{World, world, Step, Next, Over, machine, life_from, root_named}
 use Rattle.verse_code_machine.specs.Frames as frames
 use Rattle.verse_code_machine.specs.Runs.{inputs_of, main_starts}
-use Rattle.fiber.specs.Calls as fiber
 use Rattle.sim_clock.specs.declared.waits.Pending.{Pending}
 use Rattle.vm_tasks_laws.specs.Slots.{held, Entry, no_parent, Seen}
 use Rattle.vm_tasks_laws.specs.Roses.{Rose, empty, node}
@@ -20,6 +19,7 @@ use Rattle.vm_tasks_laws.specs.Clocks.{sleeping, Timed}
 use Rattle.vm_frames.specs.Framed.{Framed}
 use Rattle.vm_frames.specs.Calls.{entered}
 use Rattle.vm_frames.specs.Machine.{frames_with}
+use Rattle.vm_frames.proofs.Whole.{units_same}
 use Rattle.vm_running.specs.Views.{View, Aside, state_of, memories}
 use Rattle.vm_running.specs.Doings.{on_frame, going}
 use Rattle.vm_running.specs.Comes.{done}
@@ -34,10 +34,6 @@ use Rattle.vm_scheduler.specs.Ups.{ups_of, id_of, UpsAre, no_ups}
 use Rattle.vm_scheduler.specs.Standing.{Tree, given_of, AllFine, Untold, Standing}
 use Rattle.vm_scheduler.proofs.Running.{own_goes}
 use Rattle.vm_wake.specs.Starts.{IsNew, Fresh, MainStarts}
-
-units_same : (n : ℕ) → fiber.units n ≡ frames.units n
-units_same zero = refl
-units_same (suc n) = ap (λ us. unit ∷ us) (units_same n)
 
 -- the arguments of Main
 

@@ -1,8 +1,9 @@
 -- What a task that is woken goes on with, by the clock and by what the tasks keep.
-use Rattle.std.proofs.Common.{◌≡◌, ℕ, zero, suc, List, [], ◌∷◌, map, Option, Some, None, option_map, slice_get, refl, sym, ap, ◌∙◌}
+use Rattle.std.proofs.Common.{◌≡◌, ℕ, List, Option, Some, None, option_map, refl, sym, ap, ◌∙◌}
 use Rattle.verse_value.specs.View.{val_of}
 use Rattle.verse_meaning_state.specs.State.{Given, Signal}
 use Rattle.verse_meaning_state.specs.Waits.{nth, given_by}
+use Rattle.verse_meaning_state.proofs.Numbers.{nth_map}
 use Rattle.sim_clock.specs.declared.waits.WaitKind.{WaitKind}
 use Rattle.sim_clock.specs.declared.waits.WaitKind.TheVariants.{At, Never, Task as OnTask, Event}
 use Rattle.sim_clock.specs.declared.waits.Pending.{Pending}
@@ -12,16 +13,6 @@ use Rattle.vm_scheduler.specs.declared.tasks.Given as given
 use Rattle.vm_scheduler.specs.declared.tasks.Tasks.{Tasks}
 use Rattle.vm_scheduler.specs.Standing.{given_of, Clocked}
 use Rattle.vm_wake.specs.Values.{value_in, value_at}
-
-nth_map : {A B : Type 0} (f : A → B) (xs : List A) (n : ℕ) → nth (map f xs) n ≡ option_map f (nth xs n)
-nth_map f [] n = refl
-nth_map f (x ∷ xs) zero = refl
-nth_map f (x ∷ xs) (suc n) = nth_map f xs n
-
-pub nth_slice : {A : Type 0} (xs : List A) (n : ℕ) → nth xs n ≡ slice_get xs n
-nth_slice [] n = refl
-nth_slice (x ∷ xs) zero = refl
-nth_slice (x ∷ xs) (suc n) = nth_slice xs n
 
 given_value : (o : Option (Option given.Given)) →
     option_map (λ (g : Given). g.value) (given_by (option_map (λ o. option_map given_of o) o)) ≡ value_in o

@@ -1,6 +1,7 @@
 -- The task of the wait that is due next goes on.
 use Rattle.std.proofs.Common.{◌≡◌, ◌≢◌, ℕ, Bool, true, false, cond, eqb, if◌then◌else◌, Result, Ok, Err, IfOk, List, [], ◌∷◌, ◌++◌, map}
 use Rattle.std.proofs.Common.{Option, Some, None, IsSome, option_map, refl, sym, ap, subst, ◌∙◌}
+use Rattle.std.proofs.lemmas.Option.{same_Some}
 use Rattle.task_tree.specs.Tasks.{Task, task_at, with_item, IsLive}
 use Rattle.task_tree.specs.Nested.{IsTree}
 use Rattle.verse_value.specs.Val.{Val}
@@ -73,9 +74,6 @@ abbrev or_this : {A : Type 0} → A → Option A → A
 or_this x None = x
 or_this x (Some y) = y
 
-some_of : {A : Type 0} (x y : A) → Some x ≡ Some y → x ≡ y
-some_of x y e = ap (λ o. or_this x o) e
-
 -- the task whose item is changed
 
 module _ {T : Type 0} where
@@ -88,7 +86,7 @@ module _ {T : Type 0} where
           (task_at id ts ≡ Some t → task_at id (with_item id ts item) ≡ Some (record t { item = item })) →
           task_at id (if b then record x { item = item } ∷ ts else x ∷ with_item id ts item) ≡ Some (record t { item = item })
       go true p e more = ap (λ b. if b then Some (record x { item = item }) else task_at id ts) p ∙
-          ap (λ (z : Task T). Some (record z { item = item })) (some_of x t e)
+          ap (λ (z : Task T). Some (record z { item = item })) (same_Some x t e)
       go false p e more = ap (λ b. if b then Some x else task_at id (with_item id ts item)) p ∙ more e
 
 -- what is asleep
@@ -145,7 +143,7 @@ module _ {W : Type 0} (pending : W → List Pending) where
     woken_tasks = record t { tree = new; gone = record t.gone { waits = waits } }
 
     held_is : re.task.item.held ≡ Asleep fs n kind
-    held_is = some_of re.task.item.held (Asleep fs n kind)
+    held_is = same_Some re.task.item.held (Asleep fs n kind)
         (sym (ap (λ o. option_map (λ (z : Task (Slot (List Framed))). z.item.held) o) re.at_it) ∙ value)
 
     woken_suspended : (a : Aside) (tss : Forest) → Resting pending a tss v t → Suspended re.task.item.number fs

@@ -1,7 +1,8 @@
 use Rattle.lower_expr.specs.Building.{built}
 use Rattle.lower_expr.specs.Locals.{scope_of}
-use Rattle.lower_values.proofs.Fields.{givens_next, givens_done, grown_more, grown_none}
+use Rattle.lower_values.proofs.Fields.{givens_next, givens_done}
 use Rattle.std.proofs.Common.{refl}
+use Rattle.lower_parts.proofs.Facts.{grown_more}
 use Rattle.lower_values.proofs.instances.all.Goals as goal
 
 pub parts-preserved : goal.parts-preserved

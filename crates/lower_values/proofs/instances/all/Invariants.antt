@@ -5,7 +5,7 @@ use Rattle.lower_lookup.specs.Types.{differ_of}
 use Rattle.lower_expr.specs.Building.{built, made}
 use Rattle.lower_expr.specs.Locals.{scope_of}
 use Rattle.lower_parts.specs.Parts.{Grown}
-use Rattle.lower_values.proofs.Fields.{left_givens}
+use Rattle.lower_parts.proofs.Facts.{left_givens}
 use Rattle.lower_values.proofs.instances.all.Given as goal
 
 -- what is left, from here on, ends as all does from the start

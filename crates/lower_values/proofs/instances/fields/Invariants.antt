@@ -4,7 +4,7 @@ use Rattle.verse_meaning.specs.Programs.{program_of, fields_of}
 use Rattle.lower_code.specs.Lowering.{field_ops}
 use Rattle.lower_lookup.specs.Types.{differ_of}
 use Rattle.lower_expr.specs.Building.{built, made}
-use Rattle.lower_values.proofs.Fields.{left_fields}
+use Rattle.lower_parts.proofs.Facts.{left_fields}
 use Rattle.lower_values.proofs.instances.fields.Given as goal
 
 -- what is left, from here on, ends as all does from the start

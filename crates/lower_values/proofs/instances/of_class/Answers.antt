@@ -2,7 +2,7 @@ use Rattle.std.proofs.Common.{map}
 use Rattle.verse_tree.specs.View.{given_of, givens}
 use Rattle.lower_expr.specs.Building.{built}
 use Rattle.lower_expr.specs.Locals.{scope_of}
-use Rattle.lower_values.proofs.Fields.{class_done, grown_cut}
+use Rattle.lower_values.proofs.Fields.{class_done}
 use Rattle.lower_values.proofs.instances.of_class.Goals as goal
 
 pub returns-clause-code : goal.returns-clause-code

@@ -4,7 +4,7 @@ use Rattle.lower_code.specs.Lowering.{holed, joined_parts}
 use Rattle.lower_lookup.specs.Types.{differ_of}
 use Rattle.lower_expr.specs.Building.{built, made}
 use Rattle.lower_expr.specs.Locals.{scope_of}
-use Rattle.lower_values.proofs.Holes.{left_holes}
+use Rattle.lower_parts.proofs.Facts.{left_holes}
 use Rattle.lower_values.proofs.texts.all.Given as goal
 
 -- what is left, from here on, ends as all does from the start

@@ -1,8 +1,9 @@
 use Rattle.std.proofs.Common.{map, ap}
 use Rattle.verse_tree.specs.View.{tree_of, trees, cases_of}
 use Rattle.lower_expr.specs.Locals.{scope_of}
+use Rattle.lower_blocks.proofs.Arming.{case_cut}
 use Rattle.note_stretches.specs.Noted.{noted}
-use Rattle.note_blocks.proofs.Arming.{case_by, case_cut}
+use Rattle.note_blocks.proofs.Arming.{case_by}
 use Rattle.note_blocks.proofs.cases.case.Goals as goal
 
 pub returns-clause-states : goal.returns-clause-states

@@ -1,8 +1,9 @@
 use Rattle.std.proofs.Common.{refl, ap, ◌∙◌}
 use Rattle.verse_tree.specs.View.{tree_of, trees, for_of}
 use Rattle.lower_expr.specs.Locals.{scope_of, cut_to}
+use Rattle.lower_blocks.proofs.Leveled.{cut_levels}
 use Rattle.note_stretches.specs.Noted.{noted}
-use Rattle.note_blocks.proofs.Leveled.{cut_levels, for_by}
+use Rattle.note_blocks.proofs.Leveled.{for_by}
 use Rattle.note_blocks.proofs.loops.for_inside.Goals as goal
 
 pub returns-clause-states : goal.returns-clause-states

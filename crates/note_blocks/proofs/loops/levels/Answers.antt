@@ -2,9 +2,10 @@ use Rattle.std.proofs.Common.{[], map, refl}
 use Rattle.verse_tree.specs.View.{tree_of}
 use Rattle.verse_meaning.specs.Evaluating.{statement_of}
 use Rattle.lower_expr.specs.Locals.{scope_of}
+use Rattle.lower_blocks.proofs.Leveled.{extends_more}
 use Rattle.note_states.specs.View.{standing_of}
 use Rattle.note_stretches.specs.Noted.{noted}
-use Rattle.note_blocks.proofs.Leveled.{levels_next, levels_cut, levels_done, extends_more}
+use Rattle.note_blocks.proofs.Leveled.{levels_next, levels_cut, levels_done}
 use Rattle.note_blocks.proofs.loops.levels.Goals as goal
 
 pub parts-init : goal.parts-init

@@ -1,6 +1,7 @@
 use Rattle.lower_expr.specs.Locals.{scope_of}
+use Rattle.lower_blocks.proofs.Listed.{behind_done, behind_next}
 use Rattle.note_stretches.specs.Noted.{noted}
-use Rattle.note_blocks.proofs.Listed.{more_next, more_done, behind_next, behind_done}
+use Rattle.note_blocks.proofs.Listed.{more_next, more_done}
 use Rattle.note_blocks.proofs.statements.more_statements.Goals as goal
 
 pub parts-preserved : goal.parts-preserved

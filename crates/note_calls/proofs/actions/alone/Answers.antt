@@ -8,8 +8,9 @@ use Rattle.lower_lookup.specs.Types.{differ_of}
 use Rattle.lower_expr.specs.Locals.{scope_of}
 use Rattle.lower_notes.specs.Applied.{finish, start}
 use Rattle.note_stretches.specs.Noted.{noted, walked}
+use Rattle.note_applied.proofs.Steps.{three_steps}
 use Rattle.note_parts.specs.Parts.{operands_walk}
-use Rattle.note_calls.proofs.Steps.{three_steps, same_walked}
+use Rattle.note_calls.proofs.Steps.{same_walked}
 use Rattle.note_calls.proofs.actions.alone.Goals as goal
 
 pub returns-clause-states : goal.returns-clause-states

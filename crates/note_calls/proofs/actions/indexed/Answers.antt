@@ -8,9 +8,10 @@ use Rattle.lower_expr.specs.Locals.{scope_of}
 use Rattle.lower_notes.specs.Applied.{finish}
 use Rattle.note_sorts.specs.Tabled.{found_of}
 use Rattle.note_stretches.specs.Noted.{noted, walked}
+use Rattle.note_applied.proofs.Steps.{three_steps}
 use Rattle.note_parts.specs.Parts.{tree_walk}
 use Rattle.note_calls.specs.Calls.{indices_walk}
-use Rattle.note_calls.proofs.Steps.{three_steps, same_walked}
+use Rattle.note_calls.proofs.Steps.{same_walked}
 use Rattle.note_calls.proofs.actions.indexed.Goals as goal
 
 pub returns-clause-states : goal.returns-clause-states

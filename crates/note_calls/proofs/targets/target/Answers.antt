@@ -2,9 +2,9 @@ use Rattle.std.proofs.Common.{arith, ◌∙◌, ◌-◌}
 use Rattle.verse_tree.specs.View.{tree_of}
 use Rattle.lower_lookup.specs.Members.{base_view}
 use Rattle.lower_expr.specs.Locals.{scope_of}
+use Rattle.lower_calls.proofs.Indices.{operands_begun, operands_done, operands_next}
 use Rattle.note_stretches.specs.Noted.{noted}
-use Rattle.note_calls.proofs.Levels.{target_begun, operands_begun, target_next, operands_next, target_done}
-use Rattle.note_calls.proofs.Levels.{operands_done}
+use Rattle.note_calls.proofs.Levels.{target_begun, target_next, target_done}
 use Rattle.note_calls.proofs.targets.target.Goals as goal
 
 pub levels-init : goal.levels-init

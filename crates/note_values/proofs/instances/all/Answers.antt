@@ -1,6 +1,7 @@
 use Rattle.lower_expr.specs.Locals.{scope_of}
+use Rattle.lower_parts.proofs.Facts.{grown_more}
 use Rattle.note_stretches.specs.Noted.{noted}
-use Rattle.note_values.proofs.Fields.{givens_next, givens_done, grown_more}
+use Rattle.note_values.proofs.Fields.{givens_next, givens_done}
 use Rattle.note_values.proofs.instances.all.Goals as goal
 
 pub parts-preserved : goal.parts-preserved

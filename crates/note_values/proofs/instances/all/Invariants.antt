@@ -1,8 +1,9 @@
 use Rattle.std.proofs.Common.{◌≡◌}
 use Rattle.lower_expr.specs.Locals.{scope_of}
 use Rattle.lower_parts.specs.Parts.{Grown}
+use Rattle.lower_parts.proofs.Facts.{left_givens}
 use Rattle.note_stretches.specs.Noted.{noted, walked}
-use Rattle.note_values.proofs.Fields.{left_givens, givens_walk}
+use Rattle.note_values.proofs.Fields.{givens_walk}
 use Rattle.note_values.proofs.instances.all.Given as goal
 
 -- what is left, from here on, ends as all does from the start

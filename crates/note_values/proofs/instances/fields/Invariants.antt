@@ -1,8 +1,9 @@
 use Rattle.std.proofs.Common.{◌≡◌, map}
 use Rattle.verse_tree.specs.View.{given_of, givens}
 use Rattle.verse_meaning.specs.Programs.{program_of, fields_of}
+use Rattle.lower_parts.proofs.Facts.{left_fields}
 use Rattle.note_stretches.specs.Noted.{noted, walked}
-use Rattle.note_values.proofs.Fields.{left_fields, fields_walk}
+use Rattle.note_values.proofs.Fields.{fields_walk}
 use Rattle.note_values.proofs.instances.fields.Given as goal
 
 -- what is left, from here on, ends as all does from the start

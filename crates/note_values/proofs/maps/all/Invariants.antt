@@ -1,9 +1,10 @@
 use Rattle.std.proofs.Common.{◌≡◌}
 use Rattle.lower_notes.specs.Noting.{key_in}
 use Rattle.lower_expr.specs.Locals.{scope_of}
+use Rattle.lower_parts.proofs.Facts.{left_pairs}
 use Rattle.note_sorts.specs.Tabled.{found_of}
 use Rattle.note_stretches.specs.Noted.{noted, walked}
-use Rattle.note_values.proofs.Keys.{left_pairs, pairs_walk}
+use Rattle.note_values.proofs.Keys.{pairs_walk}
 use Rattle.note_values.proofs.maps.all.Given as goal
 
 -- what is left, from here on, ends as all does from the start

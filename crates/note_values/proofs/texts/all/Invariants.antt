@@ -1,7 +1,8 @@
 use Rattle.std.proofs.Common.{◌≡◌}
 use Rattle.lower_expr.specs.Locals.{scope_of}
+use Rattle.lower_parts.proofs.Facts.{left_holes}
 use Rattle.note_stretches.specs.Noted.{noted, walked}
-use Rattle.note_values.proofs.Holes.{left_holes, holes_walk}
+use Rattle.note_values.proofs.Holes.{holes_walk}
 use Rattle.note_values.proofs.texts.all.Given as goal
 
 -- what is left, from here on, ends as all does from the start

@@ -1,6 +1,7 @@
 use Rattle.std.proofs.Common.{◌≡◌, ◌<◌, [], length, reverse, sym, ap, ◌∙◌, arith}
 use Rattle.std.proofs.lemmas.List.{reverse-reverse, length-reverse}
-use Rattle.run_save_machine.proofs.Putting.{inside, one_fewer, no_items, long, first, its_suits, its_parent, one_more, next_place, last}
+use Rattle.verse_base.proofs.Facts.{no_items}
+use Rattle.run_save_machine.proofs.Putting.{inside, one_fewer, long, first, its_suits, its_parent, one_more, next_place, last}
 use Rattle.run_save_machine.proofs.tasks.put_all.Goals as goal
 
 pub tasks-init : goal.tasks-init

@@ -1,5 +1,5 @@
 use Rattle.std.proofs.Common.{sym}
-use Rattle.run_save_stands.proofs.TopSteps.{top_is_last}
+use Rattle.run_save_shots.proofs.Steps.{top_is_last}
 use Rattle.run_save_stands.proofs.stands.top_place.Goals as goal
 
 pub returns-in-Some : goal.returns-in-Some

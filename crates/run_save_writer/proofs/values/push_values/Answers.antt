@@ -1,8 +1,9 @@
 use Rattle.std.proofs.Common.{ℕ, subst}
+use Rattle.verse_base.proofs.Facts.{as_long}
 use Rattle.verse_image.specs.Writing.{Writes}
 use Rattle.verse_value.specs.View.{val_of, vals_of}
 use Rattle.run_save_format.specs.Format.{wide, value}
-use Rattle.run_save_writer.proofs.Writing.{as_long, writes_many}
+use Rattle.run_save_writer.proofs.Writing.{writes_many}
 use Rattle.run_save_writer.proofs.values.push_values.Goals as goal
 
 pub returns : goal.returns

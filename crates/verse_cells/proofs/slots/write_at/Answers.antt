@@ -1,15 +1,16 @@
 use Rattle.std.proofs.Common.{Option, IfErr, sym, subst}
+use Rattle.std.proofs.lemmas.Result.{IfOk-weaker, on_err_weaker}
 use Rattle.verse_value.specs.Val.{Val}
 use Rattle.verse_value.specs.View.{val_of, vals_of}
 use Rattle.verse_value_writes.specs.Writes.{Explains}
 use Rattle.verse_cells.specs.Changes.{IsWrite, slot_written}
-use Rattle.verse_cells.proofs.Places.{if_ok, on_err, in_cell, same_cells, cell_there, read_slot}
+use Rattle.verse_cells.proofs.Places.{in_cell, same_cells, cell_there, read_slot}
 use Rattle.verse_cells.proofs.slots.write_at.Goals as goal
 
 pub returns-clause-ok : goal.returns-clause-ok
 returns-clause-ok c =
     let there = cell_there c.args.cells.now c.args.at.cell c.args.at.slot c.requires in
-    if_ok c.write_part.result
+    IfOk-weaker c.write_part.result _ _
     (λ ch h. in_cell c.args.at.cell c.args.at.slot
     (IsWrite c.args.spare (vals_of c.args.path.now) c.args.mode (val_of c.args.value) c.args.wanted ch) c.args.cells.now
     c.index-cells-at.result c.write_part.new.slots there h)
@@ -25,6 +26,6 @@ returns-clause-fault c =
 pub returns-clause-same : goal.returns-clause-same
 returns-clause-same c =
     let there = cell_there c.args.cells.now c.args.at.cell c.args.at.slot c.requires in
-    on_err c.write_part.result
+    on_err_weaker c.write_part.result
     (λ e. same_cells c.args.at.cell c.args.cells.now c.index-cells-at.result c.write_part.new.slots there e)
     c.write_part.ensures.same

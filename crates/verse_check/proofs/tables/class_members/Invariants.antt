@@ -8,5 +8,5 @@ use Rattle.verse_check.proofs.tables.class_members.Given as goal
 -- what is done and what is left are all
 abbrev pub invariant-classes : goal.invariant-classes
 invariant-classes l =
-    map members_view l.found.items ++ members_from (known_of l.known) l.at (classes_of (drop l._class-index l.known.outline)) ≡
+    map members_view l.found.items ++ members_from (known_of l.known) l.at (classes_of (drop l._class-index l.known.lineage.outline)) ≡
     class_members (known_of l.known)

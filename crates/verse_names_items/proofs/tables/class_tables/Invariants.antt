@@ -6,5 +6,5 @@ use Rattle.verse_names_items.proofs.tables.class_tables.Given as goal
 
 -- what is done and what is left are all
 abbrev pub invariant-classes : goal.invariant-classes
-invariant-classes l = classes_of l.found ++ class_tables_from (known_of l.known) l.at (classes_of (drop l.outline-index l.known.outline)) ≡
-    class_tables (known_of l.known)
+invariant-classes l = classes_of l.found ++
+    class_tables_from (known_of l.known) l.at (classes_of (drop l.outline-index l.known.lineage.outline)) ≡ class_tables (known_of l.known)

@@ -14,7 +14,7 @@ classes-preserved c =
     let front = map field_of c.classes.found in
     let rest = c.pop.new.self in
     let own = own_fields ts (note_members (slice_get ns c.in-Some.at)) in
-    ap (λ l. l ++ fields_of ts ns rest) (c.in_ok-add_fields.ensures ∙ ap (λ ms. front ++ own_fields ts ms) c.members_at.ensures)
+    ap (λ l. l ++ fields_of ts ns rest) (c.in_ok-found.ensures ∙ ap (λ ms. front ++ own_fields ts ms) c.members_at.ensures)
     ∙ append_assoc front own (fields_of ts ns rest)
     ∙ ap (λ l. front ++ l) (sym (last_fields ts ns rest c.in-Some.at))
     ∙ ap (λ l. front ++ fields_of ts ns l) (sym c.in-Some.ensures)

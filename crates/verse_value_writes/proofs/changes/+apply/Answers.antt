@@ -1,11 +1,12 @@
 use Rattle.std.proofs.Common.{◌≡◌, ℕ, Option, Some, arith, sym, ap, subst, ◌∙◌}
+use Rattle.std.proofs.lemmas.Result.{IfOk-weaker, on_err_weaker}
 use Rattle.verse_value.specs.Val.{Val, Vals, Pairs, unit, array, mapping}
 use Rattle.verse_value.specs.View.{val_of, vals_of}
 use Rattle.verse_value.specs.Keys.{key_of}
 use Rattle.verse_value.specs.Parts.{pair_set}
 use Rattle.verse_value.specs.Operations.{count, entry_count}
 use Rattle.verse_value.specs.Places.{End, Allows, applied, with_nth}
-use Rattle.verse_value.proofs.Steps.{on_ok, on_err, if_ok}
+use Rattle.verse_value.proofs.Steps.{on_ok}
 use Rattle.verse_value.proofs.Stepping.{array_none, array_misfit, map_none, map_misfit}
 use Rattle.verse_value_writes.specs.Changes.{change_of, Replaced}
 use Rattle.verse_value_writes.proofs.Inside.{key_at, array_at, array_leads, put_back, put_same, nth_count, map_leads, map_put_back}
@@ -67,7 +68,7 @@ apply_to_part-returns-clause-old t c =
     (sym (c.in-Some-Some.is ∙ ap (λ (o : Option ℕ). Some o) c.in-Some-Some.field-0-is) ∙ c.part_place.ensures) in
     let leads = array_leads c.args.parts.now (val_of c.args.index.now) c.in-Some-Some.at
     (val_of c.replace-part.result) at.0 c.replace-part.ensures.old in
-    if_ok c.apply-outcome.result (λ old r. subst (λ (e : End). Replaced (change_of c.args.made) old e)
+    IfOk-weaker c.apply-outcome.result _ _ (λ old r. subst (λ (e : End). Replaced (change_of c.args.made) old e)
     (sym (end_inside (vals_of c.args.path.now) (val_of c.args.index.now) (array c.args.parts.now) (val_of c.replace-part.result) leads))
     r) c.apply-outcome.ensures.old
 
@@ -76,7 +77,7 @@ apply_to_part-returns-clause-err t c =
     let w : Val = val_of c.apply-outcome.new.slot in
     let seen : c.replace.new.self ≡ with_nth (with_nth c.args.parts.now c.in-Some-Some.at (λ _. unit)) c.in-Some-Some.at (λ _. w) =
     c.replace.ensures.new ∙ ap (λ (vs : Vals). with_nth vs c.in-Some-Some.at (λ _. w)) c.replace-part.ensures.new in
-    on_err c.apply-outcome.result (λ h. seen ∙
+    on_err_weaker c.apply-outcome.result (λ h. seen ∙
     put_same c.args.parts.now c.in-Some-Some.at (val_of c.replace-part.result) unit w c.replace-part.ensures.old h)
     c.apply-outcome.ensures.err
 
@@ -138,7 +139,7 @@ apply_to_entry-returns-clause-old t c =
     (sym (c.in-Some-Some.is ∙ ap (λ (o : Option ℕ). Some o) c.in-Some-Some.field-0-is) ∙ c.map_place.ensures) in
     let leads = map_leads c.args.entries.now (val_of c.args.index.now) c.in-Some-Some.at
     (val_of c.replace-value.result) at c.replace-value.ensures.old in
-    if_ok c.apply-outcome.result (λ old r. subst (λ (e : End). Replaced (change_of c.args.made) old e)
+    IfOk-weaker c.apply-outcome.result _ _ (λ old r. subst (λ (e : End). Replaced (change_of c.args.made) old e)
     (sym (end_inside (vals_of c.args.path.now) (val_of c.args.index.now) (mapping c.args.entries.now)
     (val_of c.replace-value.result) leads)) r) c.apply-outcome.ensures.old
 
@@ -147,6 +148,6 @@ apply_to_entry-returns-clause-err t c =
     let w : Val = val_of c.apply-outcome.new.slot in
     let seen : c.replace.new.self ≡ pair_set (pair_set c.args.entries.now c.in-Some-Some.at unit) c.in-Some-Some.at w =
     c.replace.ensures.new ∙ ap (λ (ps : Pairs). pair_set ps c.in-Some-Some.at w) c.replace-value.ensures.new in
-    on_err c.apply-outcome.result (λ h. seen ∙
+    on_err_weaker c.apply-outcome.result (λ h. seen ∙
     map_put_same c.args.entries.now c.in-Some-Some.at (val_of c.replace-value.result) unit w c.replace-value.ensures.old h)
     c.apply-outcome.ensures.err

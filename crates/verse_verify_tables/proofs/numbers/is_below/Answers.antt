@@ -1,5 +1,5 @@
 use Rattle.std.proofs.Common.{sym}
-use Rattle.verse_verify_tables.proofs.Orders.{ltn_yes, ltn_no}
+use Rattle.verse_meaning_state.proofs.Numbers.{ltn_yes, ltn_no}
 use Rattle.verse_verify_tables.proofs.numbers.is_below.Goals as goal
 
 pub returns-then-number-other : goal.returns-then-number-other

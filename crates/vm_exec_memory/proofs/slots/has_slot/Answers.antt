@@ -1,5 +1,6 @@
 use Rattle.std.proofs.Common.{sym, ◌∙◌}
-use Rattle.vm_exec_memory.proofs.Handed.{below, not_below}
+use Rattle.verse_base.proofs.Facts.{nat_lt_not}
+use Rattle.vm_exec_memory.proofs.Handed.{below}
 use Rattle.vm_exec_memory.proofs.Stores.{slots_there, slots_absent, no_slots}
 use Rattle.vm_exec_memory.proofs.slots.has_slot.Goals as goal
 
@@ -9,7 +10,7 @@ returns-in-Some-clause-there g c so = slots_there c.args.code.now.classes _ c.ar
 
 pub returns-in-Some-clause-absent : goal.returns-in-Some-clause-absent
 returns-in-Some-clause-absent g c so = slots_absent c.args.code.now.classes _ c.args.cell c.args.slot c.in-Some.count c.kind-kind.result
-    c.requires c.kind-kind.ensures.kind (sym c.in-Some.is ∙ c.slots_in.ensures) (not_below _ _ so)
+    c.requires c.kind-kind.ensures.kind (sym c.in-Some.is ∙ c.slots_in.ensures) (nat_lt_not _ _ so)
 
 pub returns-in-None-clause-absent : goal.returns-in-None-clause-absent
 returns-in-None-clause-absent g c so = no_slots c.args.code.now.classes _ c.args.cell c.args.slot c.kind-kind.result c.requires

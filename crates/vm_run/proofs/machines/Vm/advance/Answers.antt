@@ -1,9 +1,9 @@
 use Rattle.std.proofs.Common.{sym, ap, subst, ◌∙◌}
+use Rattle.std.proofs.lemmas.Result.{IfOk-weaker}
 use Rattle.verse_value.specs.View.{val_of}
 use Rattle.verse_value.specs.declared.values.Value.{Value}
 use Rattle.vm_running.specs.Runners.{view_of}
 use Rattle.vm_run.specs.Reaching.{CanBegin}
-use Rattle.vm_run.proofs.Reaching.{ok_to}
 use Rattle.vm_run.proofs.Standing.{can_begin, can_turn, it_began, turned, still_ended}
 use Rattle.vm_run.proofs.machines.Vm.advance.Goals as goal
 
@@ -27,7 +27,8 @@ go-requires-clause-can g c = can_turn g.H.Heap.state g.W.Waits.pending c.args.co
 
 pub returns-in-Between-clause-reached : goal.returns-in-Between-clause-reached
 returns-in-Between-clause-reached g c origin steps until k past at =
-    ok_to c.go.result (λ p h. turned g.H.Heap.state g.W.Waits.pending c.args.code.now c.runs_hold.ensures c.requires.valid origin steps
+    IfOk-weaker c.go.result _ _
+    (λ p h. turned g.H.Heap.state g.W.Waits.pending c.args.code.now c.runs_hold.ensures c.requires.valid origin steps
     until k past c.args.self.now (record c.args.self.now { run = c.go.new.run; tasks = c.go.new.tasks }) p at c.in-Between.is h)
     c.go.ensures
 

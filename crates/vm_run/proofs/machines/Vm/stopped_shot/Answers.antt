@@ -1,5 +1,5 @@
+use Rattle.std.proofs.lemmas.Result.{IfOk-weaker}
 use Rattle.run_save_shots.specs.View.{shot_of}
-use Rattle.vm_run.proofs.Reaching.{ok_to}
 use Rattle.vm_run.proofs.Stopped.{can_be_shot, is_shot, same_at, same_belongs}
 use Rattle.vm_run.proofs.machines.Vm.stopped_shot.Goals as goal
 
@@ -9,7 +9,7 @@ shot-requires g c = can_be_shot g.H.Heap.state g.W.Waits.pending c.args.code.now
 
 pub returns-clause-kept : goal.returns-clause-kept
 returns-clause-kept g c origin steps until k past can at =
-    ok_to c.shot.result (λ x each. is_shot g.H.Heap.state g.W.Waits.pending c.args.code.now c.runs_hold.ensures c.requires.valid
+    IfOk-weaker c.shot.result _ _ (λ x each. is_shot g.H.Heap.state g.W.Waits.pending c.args.code.now c.runs_hold.ensures c.requires.valid
     c.args.self.now c.requires.stopped c.inputs_fit.ensures c.stopped_run_is_shown.ensures c.resumed_run_is_shown.ensures
     c.texts_are_bytes.ensures (shot_of x) each origin steps until k past can at) c.shot.ensures.spells
 

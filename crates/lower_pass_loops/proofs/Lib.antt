@@ -1,0 +1,9 @@
+pub mod Placing
+pub mod Looped
+pub mod Taking
+pub mod Turns
+pub mod Generated
+pub mod Levels
+pub mod Generators
+pub mod Clauses
+pub mod Fors

@@ -1,0 +1,9 @@
+pub mod Besides
+pub mod Operands
+pub mod Indices
+pub mod Targets
+pub mod Assigned
+pub mod Holes
+pub mod Instances
+pub mod Tabled
+pub mod Members

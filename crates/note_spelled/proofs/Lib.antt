@@ -1,0 +1,2 @@
+mod Sorts
+pub mod Whole
