@@ -36,7 +36,7 @@ pub fn pop_many(st: &[Sort], count: usize) -> Option<(&[Sort], &[Sort])>
 /// The sort of a local that may be read.
 pub fn readable<'a>(here: &Here<'a>, local: usize) -> Option<&'a Sort>
     ensures { option_map (λ a. sort_of a.now) result ≡
-        t.readable (at (sorts_of here.now.spot.now.locals.items) local) }
+        t.readable (at (sorts_of here.now.spot.now.locals.value.items) local) }
 {
     match local_at(&here.spot.locals, local) {
         None => None,

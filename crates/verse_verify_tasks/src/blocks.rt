@@ -29,7 +29,7 @@ fn defers_count(here: &Here) -> usize
 /// suits.
 fn does_defer(here: &Here, label: u32, st: &[Sort]) -> bool
     ensures { result ≡ suited here.now (block_begins here.now (suc here.now.index)
-        (length here.now.spot.now.defers.items) here.now.spot.now.locals.items
+        (length here.now.spot.now.defers.items) here.now.spot.now.locals.value.items
         ∷ goes_deferring here.now label (suc here.now.index ∷ here.now.spot.now.defers.items)
         st.now ∷ []) }
 {

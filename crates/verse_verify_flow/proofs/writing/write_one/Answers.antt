@@ -9,7 +9,7 @@ pub returns-then-local-count : goal.returns-then-local-count
 returns-then-local-count c =
     let h = c.args.here.now in
     let l = c.args.local in
-    sym (ap (rule_by h) (one_past h.spot.now.locals.items l (made_of c.args.made) (λ ls. wrote h ls (l ∷ []) (operands c.args.st.now))
+    sym (ap (rule_by h) (one_past h.spot.now.locals.value.items l (made_of c.args.made) (λ ls. wrote h ls (l ∷ []) (operands c.args.st.now))
     (omega (arith, c.if-local-count.true))))
 
 pub returns : goal.returns

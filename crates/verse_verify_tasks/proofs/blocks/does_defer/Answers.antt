@@ -8,7 +8,7 @@ pub returns-then-not-does_block_begin : goal.returns-then-not-does_block_begin
 returns-then-not-does_block_begin c =
     let h = c.args.here.now in
     let ds = (spot_in h).defers in
-    let ls = h.spot.now.locals.items in
+    let ls = h.spot.now.locals.value.items in
     let begun : suited h (block_begins h (suc h.index) (length ds) ls ∷ []) ≡ c.does_block_begin.result = sym
     (c.does_block_begin.ensures ∙ ap (λ ks. suited h (block_begins h c.next.result c.defers_count.result ks ∷ [])) c.deref.ensures.value ∙
     ap (λ n. suited h (block_begins h n c.defers_count.result ls ∷ [])) c.next.ensures ∙
@@ -20,7 +20,7 @@ pub returns : goal.returns
 returns c =
     let h = c.args.here.now in
     let ds = (spot_in h).defers in
-    let ls = h.spot.now.locals.items in
+    let ls = h.spot.now.locals.value.items in
     let begun : suited h (block_begins h (suc h.index) (length ds) ls ∷ []) ≡ c.does_block_begin.result = sym
     (c.does_block_begin.ensures ∙ ap (λ ks. suited h (block_begins h c.next.result c.defers_count.result ks ∷ [])) c.deref.ensures.value ∙
     ap (λ n. suited h (block_begins h n c.defers_count.result ls ∷ [])) c.next.ensures ∙
