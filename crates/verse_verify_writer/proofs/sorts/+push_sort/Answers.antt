@@ -8,8 +8,8 @@ use Rattle.verse_verify_writer.proofs.sorts.+push_sort.Goals as goal
 
 pub push_sort-returns-in_ok-push_parts-in-Tuple : goal.push_sort-returns-in_ok-push_parts-in-Tuple
 push_sort-returns-in_ok-push_parts-in-Tuple t c =
-    let seen : sort_of c.args.value.now ≡ tuple (sorts (sorts_of c.in-Tuple.parts.items)) =
+    let seen : sort_of c.args.value.now ≡ tuple (sorts (sorts_of c.in-Tuple.parts.value.items)) =
     is_tuple c.args.value.now c.in-Tuple.parts c.in-Tuple.is in
-    rw seen (tuple_written c.as_slice.result.now c.in-Tuple.parts.items c.tag.result c.len.result _ _ _ _
-    c.as_slice.ensures.value (c.tag.ensures ∙ ap tag_of seen) (c.len.ensures ∙ c.in-Tuple.parts.ok.0) c.in_ok-push_byte.ensures
+    rw seen (tuple_written c.as_slice.result.now c.in-Tuple.parts.value.items c.tag.result c.len.result _ _ _ _
+    c.as_slice.ensures.value (c.tag.ensures ∙ ap tag_of seen) (c.len.ensures ∙ c.in-Tuple.parts.value.ok.0) c.in_ok-push_byte.ensures
     c.in_ok-push_count-in-Tuple.ensures c.in_ok-push_parts-in-Tuple.ensures)
