@@ -10,12 +10,12 @@ use Rattle.verse_verify_faults.specs.Stepping as t
 use Rattle.verse_verify_faults.specs.Stepping.{Stepped, breaks, leads, on_there}
 use Rattle.verse_verify_notes.specs.declared.sorts.Sort.{Sort}
 use Rattle.verse_verify_notes.specs.View.{sort_of, sorts_of}
-use Rattle.verse_verify_next.specs.declared.heres.Here.{Here}
-use Rattle.verse_verify_next.specs.declared.mades.Made.{Made}
-use Rattle.verse_verify_next.specs.Heres.{operands, suited, settled, rule_by}
-use Rattle.verse_verify_next.specs.Mades.{made_of}
+use Rattle.verse_verify_parts.specs.declared.heres.Here.{Here}
+use Rattle.verse_verify_parts.specs.declared.mades.Made.{Made}
+use Rattle.verse_verify_parts.specs.Heres.{operands, suited, settled, rule_by}
+use Rattle.verse_verify_parts.specs.Mades.{made_of}
 use Rattle.verse_verify_next.specs.Leads.{goes_to, goes_written}
-use Rattle.verse_verify_next.proofs.Locals.{put_there, put_past}
+use Rattle.verse_verify_parts.proofs.Locals.{put_there, put_past}
 use Rattle.verse_verify_operands.specs.declared.finding.Taking.{Taking}
 use Rattle.verse_verify_operands.specs.Finds.{writes_of}
 use Rattle.verse_verify_flow.specs.Writing.{writes_one, writes_two, writes_taken, wrote, to_state}

@@ -1,16 +1,16 @@
 //! The locals that an operation writes.
 
 ghost use Rattle.std.specs.Prelude.{◌≡◌};
-ghost use Rattle.verse_verify_next.specs.Heres.{operands, rule_by};
-ghost use Rattle.verse_verify_next.specs.Mades.{made_of};
+ghost use Rattle.verse_verify_parts.specs.Heres.{operands, rule_by};
+ghost use Rattle.verse_verify_parts.specs.Mades.{made_of};
 ghost use Rattle.verse_verify_flow.specs.Writing as w;
 
 use verse_verify_keeps::settling::settle;
-use verse_verify_next::heres::Here;
 use verse_verify_next::leading::does_lead_written;
-use verse_verify_next::mades::Made;
-use verse_verify_next::rows::Write;
 use verse_verify_notes::sorts::Sort;
+use verse_verify_parts::heres::Here;
+use verse_verify_parts::mades::Made;
+use verse_verify_parts::rows::Write;
 
 /// The rule that an operation breaks which writes a local.
 pub fn write_one(here: &Here, local: u32, made: Made, st: &[Sort]) -> Option<u8>

@@ -1,6 +1,6 @@
 use Rattle.std.proofs.Common.{◌+◌, suc, [], ◌∷◌, sym, ap, ◌∙◌, arith}
-use Rattle.verse_verify_next.specs.Heres.{operands, rule_by}
-use Rattle.verse_verify_next.specs.Mades.{made_of}
+use Rattle.verse_verify_parts.specs.Heres.{operands, rule_by}
+use Rattle.verse_verify_parts.specs.Mades.{made_of}
 use Rattle.verse_verify_flow.specs.Writing.{wrote}
 use Rattle.verse_verify_flow.proofs.Written.{two_past, two_rule}
 use Rattle.verse_verify_flow.proofs.writing.write_two.Goals as goal

@@ -1,6 +1,6 @@
 use Rattle.std.proofs.Common.{◌≡◌, ◌∷◌, [], suc, length, sym, ap, ◌∙◌}
 use Rattle.verse_verify_next.specs.Leads.{block_begins, goes_deferring}
-use Rattle.verse_verify_next.specs.Heres.{spot_in, suited}
+use Rattle.verse_verify_parts.specs.Heres.{spot_in, suited}
 use Rattle.verse_verify_tasks.proofs.Grouping.{first_fails, second_tells}
 use Rattle.verse_verify_tasks.proofs.blocks.does_defer.Goals as goal
 

@@ -1,7 +1,7 @@
 use Rattle.std.proofs.Common.{◌≡◌, ◌+◌, ◌∷◌, [], length, true, false, sym, ap, ◌∙◌, arith}
 use Rattle.verse_meaning_state.specs.Waits.{eqn}
 use Rattle.verse_verify_notes.specs.View.{sorts_of, spot_of}
-use Rattle.verse_verify_next.specs.Heres.{spot_in, suited}
+use Rattle.verse_verify_parts.specs.Heres.{spot_in, suited}
 use Rattle.verse_verify_tasks.specs.Blocks.{leaves_in}
 use Rattle.verse_verify_tasks.proofs.Leaving.{leave_none, leave_at, leave_stops, leave_misses, leave_further, not_found, is_found}
 use Rattle.verse_verify_tasks.proofs.blocks.does_leave.Goals as goal
