@@ -1,0 +1,5 @@
+mod Turns
+mod Steps
+mod Clauses
+mod Claused
+mod Leveled
