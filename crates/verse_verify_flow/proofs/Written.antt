@@ -98,8 +98,9 @@ module _ (h : Here) (st : List s.Sort) (l d label : ℕ) (q : Taking) where
   takes zs = leads (to_state h (suc h.index) st ∷ record (to_state h label st) { locals = zs } ∷ []) (l ∷ suc l ∷ d ∷ suc d ∷ []) None
 
   pub taken_past : length h.spot.now.locals.value.items ≤ suc d → writes_taken h l d label (writes_of q) st ≡ breaks 6
-  taken_past p = two_past h.spot.now.locals.value.items d (made_of q.value) (made_of q.beside) (λ ys. on_there 6 (put ys (l + q.far) (made_of
-      q.last)) takes) p
+  taken_past p =
+      two_past h.spot.now.locals.value.items d (made_of q.value) (made_of q.beside)
+      (λ ys. on_there 6 (put ys (l + q.far) (made_of q.last)) takes) p
 
   pub taken_far : suc d < length h.spot.now.locals.value.items → length h.spot.now.locals.value.items ≤ l + q.far →
       writes_taken h l d label (writes_of q) st ≡ breaks 6
@@ -107,7 +108,8 @@ module _ (h : Here) (st : List s.Sort) (l d label : ℕ) (q : Taking) where
 
   pub taken_there : suc d < length h.spot.now.locals.value.items → l + q.far < length h.spot.now.locals.value.items →
       writes_taken h l d label (writes_of q) st ≡
-      takes (set (set (set (before h.spot.now.locals.value.items) d (made_of q.value)) (suc d) (made_of q.beside)) (l + q.far) (made_of q.last))
+      takes (set (set (set (before h.spot.now.locals.value.items) d (made_of q.value)) (suc d) (made_of q.beside)) (l + q.far)
+      (made_of q.last))
   taken_there p o = three_there h.spot.now.locals.value.items d (made_of q.value) (made_of q.beside) (l + q.far) (made_of q.last) takes p o
 
 -- the rule that is broken where locals are written that are there

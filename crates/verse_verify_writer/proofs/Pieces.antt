@@ -32,7 +32,8 @@ both_written p q old a new one two = two ∙ ap (λ (w : List ℕ). w ++ q) one 
 tuple_seen : (parts : Rc (Vec Made) Global) → sort_of (made.Tuple parts) ≡ s.tuple (kept.sorts (sorts_of parts.value.items))
 tuple_seen parts = search (rules, the_lemmas)
 
-pub is_tuple : (a : Made) (parts : Rc (Vec Made) Global) → a ≡ made.Tuple parts → sort_of a ≡ s.tuple (kept.sorts (sorts_of parts.value.items))
+pub is_tuple : (a : Made) (parts : Rc (Vec Made) Global) → a ≡ made.Tuple parts →
+    sort_of a ≡ s.tuple (kept.sorts (sorts_of parts.value.items))
 is_tuple a parts e = ap sort_of e ∙ tuple_seen parts
 
 -- a tuple: its tag, how many parts, and the parts

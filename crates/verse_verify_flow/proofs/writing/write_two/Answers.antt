@@ -9,8 +9,8 @@ pub returns-then-next-count : goal.returns-then-next-count
 returns-then-next-count c =
     let h = c.args.here.now in
     let l = c.args.local in
-    sym (ap (rule_by h) (two_past h.spot.now.locals.value.items l (made_of c.args.made) (made_of c.args.behind) (λ ls. wrote h ls (l ∷ suc l ∷ [])
-    (operands c.args.st.now)) (omega (arith, c.if-next-count.true))))
+    sym (ap (rule_by h) (two_past h.spot.now.locals.value.items l (made_of c.args.made) (made_of c.args.behind)
+    (λ ls. wrote h ls (l ∷ suc l ∷ []) (operands c.args.st.now)) (omega (arith, c.if-next-count.true))))
 
 pub returns : goal.returns
 returns c = c.settle.ensures ∙ two_rule c.args.here.now c.args.st.now c.next.result c.does_lead_written-suits.result c.args.local
