@@ -43,7 +43,7 @@ pub fn copy_sort(sort: &Sort) -> Result<Sort, Memory>
 pub fn copy_sorts(alloc: Global, sorts: &[Sort]) -> Result<Vec<Sort>, Memory>
     ensures { IfOk result (λ r. sorts_of r.items ≡ sorts_of sorts.now) }
 {
-    let mut copies = Vec::new(alloc);
+    let mut copies = Vec::with_capacity(alloc, sorts.len())?;
     'sorts: for sort in sorts {
         copies.push(copy_sort(sort)?)?;
     }

@@ -165,24 +165,17 @@ fn let_go(sort: Sort) {
     let _ = sort;
 }
 
-/// Locals of which one is of this sort; the same where there is no such local.
+/// A local is of this sort; nothing changes where there is no such local.
 #[tactic(auto, using(crate::proofs::Lists::local_set, crate::proofs::Lists::local_past))]
-fn with_local(
-    alloc: Global,
-    locals: &Rc<Vec<Sort>>,
-    local: u32,
-    sort: Sort,
-) -> Result<Rc<Vec<Sort>>, Memory>
-    ensures { IfOk result (λ r. sorts_of r.value.items ≡
-        s.with_local local (sort_of sort) (sorts_of locals.now.value.items)) }
+fn set_local(locals: &mut Vec<Sort>, local: u32, sort: Sort)
+    ensures { sorts_of locals.new.items ≡
+        s.with_local local (sort_of sort) (sorts_of locals.old.items) }
 {
-    if local as usize >= locals.len() {
+    if (local as usize) < locals.len() {
+        let_go(mem::replace(&mut locals[local as usize], sort));
+    } else {
         let_go(sort);
-        return Ok(locals.clone()?);
     }
-    let mut own = copy_sorts(alloc, locals.as_slice())?;
-    let_go(mem::replace(&mut own[local as usize], sort));
-    Ok(Rc::new(alloc, own)?)
 }
 
 /// The sorts of the locals with which a function begins: those of its parameters, and then none.
@@ -326,7 +319,28 @@ impl State {
         ensures { OnOk result (state_of self.new ≡
             with_set local (sort_of sort) (state_of self.old)) }
     {
-        self.locals = with_local(self.alloc, &self.locals, local, sort)?;
+        let mut locals = copy_sorts(self.alloc, self.locals.as_slice())?;
+        set_local(&mut locals, local, sort);
+        self.locals = Rc::new(self.alloc, locals)?;
+        Ok(())
+    }
+
+    /// One local after the other.
+    #[tactic(auto, unfolding(crate::specs::View::state_of))]
+    fn sets_both(
+        &mut self,
+        local: u32,
+        sort: Sort,
+        other: u32,
+        beside: Sort,
+    ) -> Result<(), Memory>
+        ensures { OnOk result (state_of self.new ≡ with_set other (sort_of beside)
+            (with_set local (sort_of sort) (state_of self.old))) }
+    {
+        let mut locals = copy_sorts(self.alloc, self.locals.as_slice())?;
+        set_local(&mut locals, local, sort);
+        set_local(&mut locals, other, beside);
+        self.locals = Rc::new(self.alloc, locals)?;
         Ok(())
     }
 
@@ -336,8 +350,7 @@ impl State {
     {
         let count = next(local)?;
         let domain = self.take_top();
-        self.sets(local, domain)?;
-        self.sets(count, Sort::Int)
+        self.sets_both(local, domain, count, Sort::Int)
     }
 
     /// Both ends of a range go into a local, and a count into the next one.
@@ -346,8 +359,7 @@ impl State {
     {
         let count = next(local)?;
         self.pops(2);
-        self.sets(local, Sort::Span)?;
-        self.sets(count, Sort::Int)
+        self.sets_both(local, Sort::Span, count, Sort::Int)
     }
 
     /// What a turn takes goes into a local, and what stands beside it into the next one.
@@ -356,8 +368,7 @@ impl State {
             s.turns_with local (sort_of value) (sort_of beside) (state_of self.old)) }
     {
         let key = next(local)?;
-        self.sets(local, value)?;
-        self.sets(key, beside)
+        self.sets_both(local, value, key, beside)
     }
 
     /// In the Try of an index.
