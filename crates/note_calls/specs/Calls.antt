@@ -54,7 +54,7 @@ module _ (p : Program) where
 
   abbrev pub indexed_walk : Tree → Trees → Scope → Around → Form → Walk
   indexed_walk b ts sc a f =
-      tree_walk p b sc a then indices_walk ((found_of p).sort (number_of b)) ts sc (up a) then
+      tree_walk p b sc a then indices_walk p ((found_of p).sort (number_of b)) ts sc (up a) then
       finish f (how_many ts) true
 
   abbrev pub quotient_walk : Trees → Scope → Around → Form → Walk

@@ -13,5 +13,6 @@ use Rattle.note_blocks.specs.Walks.{statements_walk}
 module _ (p : Program) where
   -- the conditions of an `if`, and the part that is taken where they hold
   abbrev pub taken_walk : Trees → Tree → Scope → Around → Walk
-  taken_walk cs t sc a = statements_walk cs sc (enclosed a) then one (pops 1) then one untried then
+  taken_walk cs t sc a =
+      statements_walk p cs sc (enclosed a) then one (pops 1) then one untried then
       tree_walk p t (scope_behind cs sc) a

@@ -25,7 +25,7 @@ use Rattle.note_blocks.specs.Walks.{inner_walk}
 use Rattle.note_loops.specs.Walks.{claused_walk}
 use Rattle.note_loops.specs.Levels.{Leads}
 use Rattle.note_loops.proofs.Clauses.{claused_plain, claused_defines, claused_defers, claused_generates}
-use Rattle.note_loops.proofs.Turns.{one_more_turn}
+use Rattle.note_loops.proofs.OpenTurns.{one_more_turn}
 
 module _ (p : Program) (e : Tree) (sc : Scope) (a : Around) where
   kind_walk : (s : Statement) (rest : Scope → Walk) (b c : Noted) → statement_of e ≡ s →

@@ -1,4 +1,4 @@
-mod Turns
+mod OpenTurns
 mod Steps
 mod Clauses
 mod Claused

@@ -21,7 +21,7 @@ module _ (p : Program) where
   claused_walk t sc a rest =
       claused (program_of p) (found_of p) (differ_of p) (statement_of t)
       ((found_of p).sort (number_of t)) ((found_of p).key (number_of t)) sc
-      (tree_walk p t sc a) (inner_walk t sc a) rest
+      (tree_walk p t sc a) (inner_walk p t sc a) rest
 
   abbrev pub levels_walk : Trees → Scope → Around → (rest : Scope → Walk) → Walk
   levels_walk cs sc a rest = levels (program_of p) (found_of p) (differ_of p) cs sc a rest

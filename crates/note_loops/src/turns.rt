@@ -19,7 +19,7 @@ fn turn_end(noting: &mut Noting, at: Standing) -> Result<(), Memory>
 }
 
 /// All of these generators end, the last of them first.
-#[tactic(auto, using(crate::proofs::Turns::turns_next, crate::proofs::Turns::turns_done))]
+#[tactic(auto, using(crate::proofs::OpenTurns::turns_next, crate::proofs::OpenTurns::turns_done))]
 pub fn turns_end(noting: &mut Noting, mut turns: Vec<Standing>) -> Result<(), Memory>
     ensures { OnOk result (noted noting.new ≡ turns_closed (map standing_of turns.items)
         (noted noting.old)) }

@@ -1,5 +1,5 @@
 use Rattle.note_stretches.specs.Noted.{noted}
-use Rattle.note_loops.proofs.Turns.{turns_next}
+use Rattle.note_loops.proofs.OpenTurns.{turns_next}
 use Rattle.note_loops.proofs.turns.turns_end.Goals as goal
 
 pub turns-preserved : goal.turns-preserved
