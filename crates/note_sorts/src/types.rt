@@ -15,7 +15,6 @@ use verse_verify_notes::sorts::Sort;
 
 /// The sort of a type, with a call for each of its levels.
 #[cycle(sort)]
-#[tactic(auto, using(crate::proofs::Typing::tuple_sort))]
 pub fn sort_of(alloc: Global, ty: &Ty) -> Result<Sort, Memory>
     ensures { IfOk result (λ r. sort_of r ≡ t.sort_of (ty_of ty.now)) }
 {

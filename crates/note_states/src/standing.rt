@@ -140,7 +140,8 @@ impl Standing {
     /// What a turn takes goes into a local, and what stands beside it into the next one.
     pub fn turns_with(&mut self, local: u32, value: Sort, beside: Sort) -> Result<(), Memory>
         ensures { OnOk result (standing_of self.new ≡
-            option_map (s.turns_with local (sort_of value) (sort_of beside)) (standing_of self.old)) }
+            option_map (s.turns_with local (sort_of value) (sort_of beside))
+            (standing_of self.old)) }
     {
         if let Some(state) = &mut self.state {
             state.turns_with(local, value, beside)?;

@@ -327,13 +327,7 @@ impl State {
 
     /// One local after the other.
     #[tactic(auto, unfolding(crate::specs::View::state_of))]
-    fn sets_both(
-        &mut self,
-        local: u32,
-        sort: Sort,
-        other: u32,
-        beside: Sort,
-    ) -> Result<(), Memory>
+    fn sets_both(&mut self, local: u32, sort: Sort, other: u32, beside: Sort) -> Result<(), Memory>
         ensures { OnOk result (state_of self.new ≡ with_set other (sort_of beside)
             (with_set local (sort_of sort) (state_of self.old))) }
     {

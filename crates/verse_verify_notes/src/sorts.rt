@@ -2,8 +2,8 @@
 
 use std::rc::Rc;
 
-/// What a value is, as far as an operation can ask. Copies of a sort share its parts. Sorts that
-/// are read from notes have at most 40 levels, so that one is let go with little stack.
+/// What a value is, as far as an operation can ask. Copies of a sort share its parts. Sorts that are
+/// read from notes have at most 40 levels, so that one is let go with little stack.
 #[cycle(sort)]
 #[derive(Drop)]
 pub enum Sort {
