@@ -12,6 +12,8 @@ pub push_sort-returns-in_ok-push_parts-in-Tuple : goal.push_sort-returns-in_ok-p
 push_sort-returns-in_ok-push_parts-in-Tuple t c =
     let seen : sort_of c.args.value.now ≡ tuple (sorts (sorts_of c.in-Tuple.parts.value.items)) =
     is_tuple c.args.value.now c.in-Tuple.parts c.in-Tuple.is in
+    let parts = c.as_slice.ensures.value ∙ ap (λ (v : Vec Made). v.items) c.deref-in-Tuple-2.ensures in
+    let many = c.len.ensures ∙ ap (λ (v : Vec Made). v.len) c.deref-in-Tuple.ensures ∙ c.in-Tuple.parts.value.ok.0 in
     rw seen (tuple_written c.as_slice.result.now c.in-Tuple.parts.value.items c.tag.result c.len.result _ _ _ _
-    (c.as_slice.ensures.value ∙ ap (λ (v : Vec Made). v.items) c.deref-in-Tuple-2.ensures) (c.tag.ensures ∙ ap tag_of seen) (c.len.ensures ∙ ap (λ (v : Vec Made). v.len) c.deref-in-Tuple.ensures ∙ c.in-Tuple.parts.value.ok.0) c.in_ok-push_byte.ensures
+    parts (c.tag.ensures ∙ ap tag_of seen) many c.in_ok-push_byte.ensures
     c.in_ok-push_count-in-Tuple.ensures c.in_ok-push_parts-in-Tuple.ensures)
