@@ -10,6 +10,7 @@ ghost use Rattle.verse_verify_next.specs.Leads.{goes_to, goes_written};
 ghost use Rattle.verse_verify_operands.specs.Finds.{broken, writes_of};
 ghost use Rattle.verse_verify_flow.specs.Writing as w;
 
+use crate::writing::locals_count;
 use verse_verify_keeps::settling::settle;
 use verse_verify_next::leading::{does_lead_to, does_lead_written};
 use verse_verify_notes::sorts::Sort;
@@ -68,7 +69,7 @@ fn write_taken(
     let value = value as usize;
     let next = value + 1;
     let last = domain + taking.far;
-    let count = here.spot.locals.len();
+    let count = locals_count(here);
     if next >= count {
         return Some(6);
     }
