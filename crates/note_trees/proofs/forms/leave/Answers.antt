@@ -2,7 +2,7 @@ use Rattle.std.proofs.Common.{sym, ap, ◌∙◌}
 use Rattle.std.specs.Option.{option_map}
 use Rattle.verse_tree.specs.Tree as t
 use Rattle.verse_tree.specs.View.{tree_of, return_shape}
-use Rattle.verse_note.proofs.forms.leave.Goals as goal
+use Rattle.note_trees.proofs.forms.leave.Goals as goal
 
 pub returns-in-Some-clause-states : goal.returns-in-Some-clause-states
 returns-in-Some-clause-states g c =

@@ -16,7 +16,7 @@ use verse_base::refusals::Memory;
 use verse_tree::exprs::Expr;
 
 /// The states of a tree that is nested no deeper than this; a deeper one counts as want of memory.
-pub(crate) fn note_tree<'a>(
+pub fn note_tree<'a>(
     tables: &'a Tables<'a>,
     depth: u32,
     noting: &mut Noting,

@@ -6,7 +6,7 @@ use Rattle.note_sorts.specs.Tabled.{found_of}
 use Rattle.note_stretches.specs.Noted.{noted, valued}
 use Rattle.note_stretches.proofs.Laws.{walked_giving}
 use Rattle.note_parts.specs.Parts.{form_walk}
-use Rattle.verse_note.proofs.forms.expression.Goals as goal
+use Rattle.note_trees.proofs.forms.expression.Goals as goal
 
 pub returns-clause-states : goal.returns-clause-states
 returns-clause-states g c =

@@ -8,8 +8,8 @@ use Rattle.verse_tree.proofs.Shapes.{is_compare, is_def, is_elements, is_entries
 use Rattle.verse_tree.proofs.Shapes.{is_index, is_instance, is_let, is_logic, is_loop, is_map, is_member, is_name}
 use Rattle.verse_tree.proofs.Shapes.{is_neg, is_not, is_option, is_query, is_race, is_range, is_return, is_rush, is_set}
 use Rattle.verse_tree.proofs.Shapes.{is_sleep, is_spawn, is_sync, is_tuple, is_vardef}
-use Rattle.verse_note.proofs.Shapes.{chain_walk, event_walk, if_walk, is_break, return_walk, sleep_walk}
-use Rattle.verse_note.proofs.forms.form.Goals as goal
+use Rattle.note_trees.proofs.Shapes.{chain_walk, event_walk, if_walk, is_break, return_walk, sleep_walk}
+use Rattle.note_trees.proofs.forms.form.Goals as goal
 
 pub returns-in-Block-clause-states : goal.returns-in-Block-clause-states
 returns-in-Block-clause-states g c = rw (is_block _ _ _ c.in-Block.is c.as_slice.ensures) c.block.ensures.states
