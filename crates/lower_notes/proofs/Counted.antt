@@ -201,7 +201,7 @@ drops_count : (d : ℕ) (is : List Item) → length (drops d is) ≡ d + length 
 drops_count zero is = omega arith
 drops_count (suc d) is = omega (arith, drops_count d is)
 
-outs_count : (d : ℕ) (left : Option ℕ) (x : Option State) → length (outs d left x) ≡ suc d
+pub outs_count : (d : ℕ) (left : Option ℕ) (x : Option State) → length (outs d left x) ≡ suc d
 outs_count zero left x = refl
 outs_count (suc d) left x = omega (arith, outs_count d left x)
 
@@ -232,10 +232,10 @@ closes {f = f} {g = g} x = record {
       );
 }
 
-abbrev loop_code : Maker → ℕ → Maker
+abbrev pub loop_code : Maker → ℕ → Maker
 loop_code f a = code_then (c.ahead o.Jump (code_then f (c.one o.Drop))) (c.one (o.Again (suc a)))
 
-abbrev loop_walk : Walk → Walk
+abbrev pub loop_walk : Walk → Walk
 loop_walk g = walk_then (n.ahead (n.always n.same) (n.always n.same) (walk_then g (n.one (pops 1)))) n.ends
 
 loop_beside : {f : Maker} {g : Walk} → Beside f g → (a : ℕ) → Beside (loop_code f a) (loop_walk g)
@@ -246,10 +246,10 @@ pub loops : {f : Maker} {g : Walk} → Beside f g → Beside (c.looping f) (n.lo
 loops {f = f} {g = g} x = closes {f = c.from_here (loop_code f)} {g = loop_walk g}
     (by_place {f = loop_code f} {g = loop_walk g} (loop_beside x))
 
-abbrev turn_code : Maker → ℕ → ℕ → Maker
+abbrev pub turn_code : Maker → ℕ → ℕ → Maker
 turn_code f k a = code_then (c.ahead o.Jump (c.ahead o.Try f)) (c.one (o.Take k (suc (suc k)) (suc a)))
 
-abbrev turn_walk : Change → Walk → Walk
+abbrev pub turn_walk : Change → Walk → Walk
 turn_walk turn g = walk_then (n.ahead (n.always turn) (n.always n.same) (n.attempt g)) n.last
 
 turn_beside : {f : Maker} {g : Walk} (turn : Change) (k : ℕ) → Beside f g → (a : ℕ) →
@@ -265,7 +265,7 @@ turns {f = f} {g = g} op domain turn k x = with_locals (suc (suc (suc (suc k))))
 
 -- ---- groups
 
-unreached_count : (m : ℕ) (xs : List (Option State)) → length (unreached m xs) ≡ m + length xs
+pub unreached_count : (m : ℕ) (xs : List (Option State)) → length (unreached m xs) ≡ m + length xs
 unreached_count zero xs = omega arith
 unreached_count (suc m) xs = omega (arith, unreached_count m xs)
 

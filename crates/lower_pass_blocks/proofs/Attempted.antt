@@ -5,7 +5,7 @@ use Rattle.verse_verify_faults.specs.Spots.{point_of}
 use Rattle.std.proofs.lemmas.Option.{none-some, same_Some}
 use Rattle.verse_code.specs.declared.codes.Code.{Code}
 use Rattle.verse_code.specs.declared.operations.Op.TheVariants as o
-use Rattle.verse_names_declarations.specs.Names.{Table}
+use Rattle.verse_names_tables.specs.Names.{Table}
 use Rattle.verse_sorts.specs.Sorts as s
 use Rattle.verse_sorts.specs.Sorts.{Sort, Fits}
 use Rattle.verse_sound_rules.specs.Found as rules

@@ -2,7 +2,7 @@
 use Rattle.std.proofs.Common.{◌≡◌, ℕ, zero, suc, ◌≤◌, ◌<◌, length, List, ◌∷◌, Option, Some, refl, sym, ◌∙◌, subst, ap, arith}
 use Rattle.std.proofs.lemmas.Option.{same_Some}
 use Rattle.verse_code.specs.declared.codes.Code.{Code}
-use Rattle.verse_names_declarations.specs.Names.{Table}
+use Rattle.verse_names_tables.specs.Names.{Table}
 use Rattle.verse_sorts.specs.Sorts as s
 use Rattle.verse_sorts.specs.Sorts.{Sort, Fits, to_none, to_any}
 use Rattle.verse_sorts.specs.Typing.{at, AllFit, fit_no, fit_so}

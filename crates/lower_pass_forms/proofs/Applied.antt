@@ -8,7 +8,7 @@ use Rattle.verse_tree.specs.declared.exprs.Operator.TheVariants as op
 use Rattle.verse_code.specs.declared.codes.Code.{Code}
 use Rattle.verse_code.specs.declared.operations.Op.{Op}
 use Rattle.verse_code.specs.declared.operations.Op.TheVariants as o
-use Rattle.verse_names_declarations.specs.Names.{Table}
+use Rattle.verse_names_tables.specs.Names.{Table}
 use Rattle.verse_sorts.specs.Sorts as s
 use Rattle.verse_sorts.specs.Sorts.{Sort, Fits, fits_tuple, fits_task, fits_event, fits_list, from_never, fits_int, fits_opt}
 use Rattle.verse_sorts.specs.Typing.{AllFit, fit_no, fit_so}

@@ -8,7 +8,7 @@ use Rattle.verse_tree.specs.Tree.{Bytes}
 use Rattle.verse_tree.specs.declared.tables.Ref.TheVariants as ref
 use Rattle.verse_code.specs.declared.codes.Code.{Code}
 use Rattle.verse_code.specs.declared.operations.Op.TheVariants as o
-use Rattle.verse_names_declarations.specs.Names.{Table}
+use Rattle.verse_names_tables.specs.Names.{Table}
 use Rattle.verse_sorts.specs.Sorts as s
 use Rattle.verse_sorts.specs.Sorts.{Sort, IsKnown, Fits, FitAll, fit_more, to_none, from_never, fits_int, fits_span, fits_list, fits_map}
 use Rattle.verse_sorts.specs.Sorts.{fits_tuple}

@@ -8,7 +8,7 @@ use Rattle.verse_tree.specs.Tree.{Bytes}
 use Rattle.verse_tree.specs.declared.tables.Ref.{Ref}
 use Rattle.verse_code.specs.declared.codes.Code.{Code}
 use Rattle.verse_code.specs.declared.operations.Op.TheVariants as o
-use Rattle.verse_names_declarations.specs.Names.{Table, look}
+use Rattle.verse_names_tables.specs.Names.{Table, look}
 use Rattle.verse_sorts.specs.Sorts.{Sort}
 use Rattle.verse_sorts.specs.Typing.{at}
 use Rattle.verse_meaning.proofs.Names.{test_itself, test_same}

@@ -9,7 +9,7 @@ use Rattle.verse_tree.specs.PostOrder.{post_order}
 use Rattle.verse_code.specs.declared.codes.Func.{Func}
 use Rattle.verse_code.specs.declared.codes.Code.{Code}
 use Rattle.verse_code.specs.declared.operations.Op.TheVariants as o
-use Rattle.verse_names_declarations.specs.Names as table
+use Rattle.verse_names_tables.specs.Names as table
 use Rattle.verse_sorts.specs.Sorts as s
 use Rattle.verse_sorts.specs.Sorts.{Sort}
 use Rattle.verse_sorts.proofs.Fitting.{all_itself}

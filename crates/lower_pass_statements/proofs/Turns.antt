@@ -6,7 +6,7 @@ use Rattle.verse_tree.specs.Tree.{Tree, tree, Shape, Trees, no_trees, more_trees
 use Rattle.verse_tree.specs.Tree as t
 use Rattle.verse_code.specs.declared.codes.Code.{Code}
 use Rattle.verse_code.specs.declared.operations.Op.TheVariants as o
-use Rattle.verse_names_declarations.specs.Names.{Table}
+use Rattle.verse_names_tables.specs.Names.{Table}
 use Rattle.verse_sorts.specs.Sorts as s
 use Rattle.verse_sorts.specs.Sorts.{Sort, IsKnown, Fits}
 use Rattle.verse_sorts.proofs.Fitting.{all_fit_on}

@@ -4,7 +4,7 @@ use Rattle.std.proofs.Common.{◌∙◌, subst, ap, arith}
 use Rattle.std.specs.Prelude.{slice_get}
 use Rattle.std.proofs.lemmas.List.{append_assoc}
 use Rattle.verse_code.specs.declared.codes.Code.{Code}
-use Rattle.verse_names_declarations.specs.Names.{Table}
+use Rattle.verse_names_tables.specs.Names.{Table}
 use Rattle.verse_sorts.specs.Sorts.{Sort, IsKnown, to_any}
 use Rattle.verse_sorts.specs.Typing.{AllFit, fit_so}
 use Rattle.verse_sorts.proofs.Fitting.{all_fit_on}

@@ -17,32 +17,11 @@ use Rattle.lower_bounds.proofs.Lists.{Each, each_first, each_rest, each_joined, 
 use Rattle.lower_notes.specs.States.{State, Change, pops, gives, in_arm, in_block, deferred}
 use Rattle.lower_notes.specs.Stretches as n
 use Rattle.lower_notes.specs.Stretches.{Walk, with_value, is_left, out_with, outs, unreached, above}
-use Rattle.lower_notes.proofs.Counted.{code_then, walk_then, walk_beside}
+use Rattle.lower_notes.proofs.Counted.{code_then, walk_then, walk_beside, outs_count, unreached_count}
+use Rattle.lower_notes.proofs.Counted.{loop_code, loop_walk, turn_code, turn_walk}
 use Rattle.lower_pass_stretches.proofs.Begins.{Starts, starts, Begins}
 use Rattle.lower_pass_suits.proofs.Suited.{Kind, SuitedAt, Keeping, suited_on, at_on, at_map, stays, popped, given, given_one}
 use Rattle.lower_pass_suits.proofs.Suited.{try_opened, try_closed, arm_begun, block_begun, block_deferred, left_above}
-
--- ---- how many states there are, and the parts of loops
-
-outs_count : (d : ℕ) (left : Option ℕ) (x : Option State) → length (outs d left x) ≡ suc d
-outs_count zero left x = refl
-outs_count (suc d) left x = omega (arith, outs_count d left x)
-
-unreached_count : (m : ℕ) (xs : List (Option State)) → length (unreached m xs) ≡ m + length xs
-unreached_count zero xs = omega arith
-unreached_count (suc m) xs = omega (arith, unreached_count m xs)
-
-abbrev loop_code : Maker → ℕ → Maker
-loop_code f a = code_then (c.ahead o.Jump (code_then f (c.one o.Drop))) (c.one (o.Again (suc a)))
-
-abbrev loop_walk : Walk → Walk
-loop_walk g = walk_then (n.ahead (n.always n.same) (n.always n.same) (walk_then g (n.one (pops 1)))) n.ends
-
-abbrev turn_code : Maker → ℕ → ℕ → Maker
-turn_code f k a = code_then (c.ahead o.Jump (c.ahead o.Try f)) (c.one (o.Take k (suc (suc k)) (suc a)))
-
-abbrev turn_walk : Change → Walk → Walk
-turn_walk turn g = walk_then (n.ahead (n.always turn) (n.always n.same) (n.attempt g)) n.last
 
 -- ---- what defers nothing
 

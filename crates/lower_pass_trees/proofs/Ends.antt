@@ -3,7 +3,7 @@ use Rattle.std.proofs.Common.{◌≡◌, ℕ, length, List, [], ◌∷◌, Optio
 use Rattle.std.proofs.lemmas.Option.{same_Some}
 use Rattle.verse_tree.specs.Tree.{Trees, no_trees, more_trees}
 use Rattle.verse_code.specs.declared.codes.Code.{Code}
-use Rattle.verse_names_declarations.specs.Names.{Table}
+use Rattle.verse_names_tables.specs.Names.{Table}
 use Rattle.verse_sorts.specs.Sorts.{Sort, Fits}
 use Rattle.verse_meaning.specs.Programs.{Program}
 use Rattle.verse_meaning.specs.Residuals as form

@@ -5,7 +5,7 @@ use Rattle.verse_tree.specs.Tree as t
 use Rattle.verse_tree.specs.Tree.{Tree, tree, Trees}
 use Rattle.verse_code.specs.declared.codes.Code.{Code}
 use Rattle.verse_code.specs.declared.operations.Op.TheVariants as o
-use Rattle.verse_names_declarations.specs.Names.{Table}
+use Rattle.verse_names_tables.specs.Names.{Table}
 use Rattle.verse_sorts.specs.Sorts as s
 use Rattle.verse_sorts.specs.Sorts.{Sort, IsKnown}
 use Rattle.verse_sorts.proofs.Fitting.{fits_itself}

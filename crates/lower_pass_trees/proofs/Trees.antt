@@ -11,7 +11,7 @@ use Rattle.verse_tree.specs.PostOrder.{post_order, parts, trees_order, holes_ord
 use Rattle.verse_tree.specs.declared.exprs.Operator.TheVariants as op
 use Rattle.verse_code.specs.declared.codes.Code.{Code}
 use Rattle.verse_code.specs.declared.operations.Op.TheVariants as o
-use Rattle.verse_names_declarations.specs.Names.{Table}
+use Rattle.verse_names_tables.specs.Names.{Table}
 use Rattle.verse_sorts.specs.Sorts as s
 use Rattle.verse_sorts.specs.Sorts.{Sort, IsKnown, Fits, to_any}
 use Rattle.verse_sorts.proofs.Fitting.{fits_on}

@@ -15,7 +15,7 @@ use Rattle.verse_code.specs.declared.codes.Code.{Code}
 use Rattle.verse_code.specs.declared.operations.Op.TheVariants as o
 use Rattle.verse_value.specs.declared.modes.Mode.{Mode}
 use Rattle.verse_value.specs.declared.modes.Mode.TheVariants as mode
-use Rattle.verse_names_declarations.specs.Names.{Table}
+use Rattle.verse_names_tables.specs.Names.{Table}
 use Rattle.verse_sorts.specs.Sorts as s
 use Rattle.verse_sorts.specs.Sorts.{Sort, IsKnown, Fits, from_never}
 use Rattle.verse_sorts.specs.Typing.{at, AllFit, fit_no, fit_so}

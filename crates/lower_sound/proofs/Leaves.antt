@@ -13,7 +13,7 @@ use Rattle.verse_tree.specs.declared.exprs.Comparison.{Comparison}
 use Rattle.verse_tree.specs.declared.exprs.Comparison.TheVariants as c
 use Rattle.verse_tree.specs.declared.tables.Ref.{Ref}
 use Rattle.verse_tree.specs.declared.tables.Ref.TheVariants as ref
-use Rattle.verse_names_declarations.specs.Names.{Table}
+use Rattle.verse_names_tables.specs.Names.{Table}
 use Rattle.verse_code.specs.declared.operations.Op.TheVariants as o
 use Rattle.verse_value.specs.Val.{Val}
 use Rattle.verse_sorts.specs.Sorts.{Sort}

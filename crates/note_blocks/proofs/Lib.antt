@@ -1,12 +1,6 @@
-mod OpenEnds
-mod Steps
+pub mod Steps
 mod Inner
 mod RuleSets
 mod Clauses
 mod Stated
 mod Listed
-mod Ifs
-mod Claused
-mod Leveled
-mod NoPatterns
-mod Arming

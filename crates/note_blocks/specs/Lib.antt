@@ -1,5 +1,2 @@
 pub mod Insides
 pub mod Walks
-pub mod Ends
-pub mod Levels
-pub mod Arms

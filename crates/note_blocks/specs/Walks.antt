@@ -1,17 +1,15 @@
--- The states of the parts of forms with blocks, in a program.
-use Rattle.std.specs.Prelude.{ℕ, ◌∷◌, length}
+-- The states of statements, and of what stands in them, in a program.
 use Rattle.verse_tree.specs.Tree.{Tree, Trees}
 use Rattle.verse_tree.specs.declared.programs.Program.{Program}
 use Rattle.verse_meaning.specs.Programs.{program_of}
 use Rattle.verse_meaning.specs.Evaluating.{statement_of, number_of}
-use Rattle.lower_code.specs.Scopes.{Scope, hidden}
+use Rattle.lower_code.specs.Scopes.{Scope}
 use Rattle.lower_code.specs.Arounds.{up, enclosed}
-use Rattle.lower_code.specs.Lowering.{scope_behind}
 use Rattle.lower_code.specs.declared.arounds.Around.{Around}
 use Rattle.lower_lookup.specs.Types.{differ_of}
-use Rattle.lower_notes.specs.States.{pops, gives, untried, in_block, deferred}
+use Rattle.lower_notes.specs.States.{pops, gives, in_block, deferred}
 use Rattle.lower_notes.specs.Stretches.{Walk, one, ends, ahead, ◌then◌}
-use Rattle.lower_notes.specs.Noting.{inner, stated, claused, levels, statements, more_statements}
+use Rattle.lower_notes.specs.Noting.{inner, stated, statements, more_statements}
 use Rattle.note_sorts.specs.Tabled.{found_of}
 use Rattle.note_parts.specs.Parts.{tree_walk}
 use Rattle.note_blocks.specs.Insides.{Inside, nothing_inside, one_part, both_ends}
@@ -45,26 +43,3 @@ module _ (p : Program) where
 
   abbrev pub more_walk : Trees → Scope → Around → Walk
   more_walk = more_statements (program_of p) (found_of p) (differ_of p)
-
-  -- the conditions of an `if`, and the part that is taken where they hold
-  abbrev pub taken_walk : Trees → Tree → Scope → Around → Walk
-  taken_walk cs t sc a = statements_walk cs sc (enclosed a) then one (pops 1) then one untried then
-      tree_walk p t (scope_behind cs sc) a
-
-  -- a clause of a `for` with what comes behind it, and clauses with what comes behind the last
-  abbrev pub claused_walk : Tree → Scope → Around → (rest : Scope → Walk) → Walk
-  claused_walk t sc a rest =
-      claused (program_of p) (found_of p) (differ_of p) (statement_of t)
-      ((found_of p).sort (number_of t)) ((found_of p).key (number_of t)) sc
-      (tree_walk p t sc a) (inner_walk t sc a) rest
-
-  abbrev pub levels_walk : Trees → Scope → Around → (rest : Scope → Walk) → Walk
-  levels_walk cs sc a rest = levels (program_of p) (found_of p) (differ_of p) cs sc a rest
-
-  -- the body of a `for`
-  abbrev pub body_walk : Tree → Around → Scope → Walk
-  body_walk t a sc = one untried then tree_walk p t sc a then one (pops 1)
-
-  -- what stands in the attempt of a `for`
-  abbrev pub for_walk : Trees → Tree → Scope → Around → Walk
-  for_walk cs t sc a = levels_walk cs (hidden ∷ sc) (enclosed a) (body_walk t a)

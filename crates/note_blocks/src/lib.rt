@@ -1,14 +1,9 @@
-//! Forms with blocks: statements and definitions, failure contexts, loops, and `case`.
+//! The states of statements, of blocks, and of definitions that are no statements.
 //!
-//! To be read in this order: `statements`, one by one; `blocks`, blocks and definitions; `failing`,
-//! failure contexts; `ends`, what stays open while parts are noted; `loops`; `patterns` and
-//! `cases`.
+//! To be read in this order: `statements`, one by one, with what stands in them; `blocks`.
+//!
+//! The public lemmas, which crates above cite, are those of `proofs/Steps`.
 #![tactic(auto)]
 
 pub mod blocks;
-pub mod cases;
-pub mod ends;
-pub mod failing;
-pub mod loops;
-pub mod patterns;
 pub mod statements;

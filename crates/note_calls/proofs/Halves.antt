@@ -8,12 +8,6 @@ use Rattle.lower_calls.proofs.Halves.{callee_is, args_are}
 use Rattle.lower_notes.specs.Stretches.{Walk}
 use Rattle.note_stretches.specs.Noted.{Noted, walked}
 
-pub callee_by : (t : Applied) (e : Expr) → e ≡ (out-Applied t).callee → tree_of e ≡ (applied_of t).0
-callee_by t e h = ap tree_of h ∙ callee_is t
-
-pub args_by : (t : Applied) (es : List Expr) → es ≡ (out-Applied t).args → trees (map tree_of es) ≡ trees (applied_of t).1
-args_by t es h = ap (λ k. trees (map tree_of k)) h ∙ ap trees (args_are t)
-
 -- what adds the states of a callee and arguments adds that of their struct
 pub applied_walked : (f : Tree → Trees → Walk) (q : Applied) (e : Expr) (es : List Expr) (x last : Noted) →
     e ≡ (out-Applied q).callee →

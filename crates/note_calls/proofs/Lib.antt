@@ -1,8 +1,4 @@
 mod Steps
-mod Arms
 mod Halves
-mod Indexed
-mod Levels
-mod Storing
-mod Objects
 mod Seen
+mod Objects

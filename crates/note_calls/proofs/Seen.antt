@@ -1,7 +1,7 @@
 -- What shapes are as callees, as dividends and as calls that are spawned.
 use Rattle.std.proofs.Common.{◌≡◌, ℕ, refl}
 use Rattle.verse_base.specs.declared.places.Place.{Place}
-use Rattle.verse_tree.specs.Tree.{Bytes, Tree, tree, Trees, no_trees, more_trees, Shape}
+use Rattle.verse_tree.specs.Tree.{Tree, tree, Trees, no_trees, more_trees, Shape}
 use Rattle.verse_tree.specs.Tree as t
 use Rattle.verse_tree.specs.declared.programs.Program.{Program}
 use Rattle.verse_meaning.specs.Programs.{program_of, ref_at}

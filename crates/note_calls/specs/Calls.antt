@@ -1,25 +1,25 @@
--- The states of calls, indices and arms, by what their callees stand for.
-use Rattle.std.specs.Prelude.{ℕ, true, Option, Some, None}
+-- The states of calls and indices, by what their callees stand for.
+use Rattle.std.specs.Prelude.{true, Option, Some, None}
 use Rattle.verse_base.specs.declared.places.Place.{Place}
-use Rattle.verse_tree.specs.Tree.{Bytes, Tree, Trees}
+use Rattle.verse_tree.specs.Tree.{Tree, Trees}
 use Rattle.verse_tree.specs.declared.programs.Program.{Program}
-use Rattle.verse_meaning.specs.Programs.{program_of, ref_at}
+use Rattle.verse_meaning.specs.Programs.{program_of}
 use Rattle.verse_meaning.specs.Residuals as form
 use Rattle.verse_meaning.specs.Residuals.{Form}
-use Rattle.verse_meaning.specs.Evaluating.{Callee, callee_of, spawned_callee, member_form}
+use Rattle.verse_meaning.specs.Evaluating.{Callee, callee_of, spawned_callee}
 use Rattle.verse_meaning.specs.Evaluating.{number_of}
-use Rattle.lower_notes.specs.Stretches.{Walk, ends, arm, grouped, ◌then◌}
+use Rattle.lower_notes.specs.Stretches.{Walk, ends, ◌then◌}
 use Rattle.lower_code.specs.Scopes.{Scope}
 use Rattle.lower_code.specs.declared.arounds.Around.{Around}
-use Rattle.lower_code.specs.Arounds.{up, fresh}
+use Rattle.lower_code.specs.Arounds.{up}
 use Rattle.lower_code.specs.Applied.{started}
 use Rattle.lower_notes.specs.Applied.{finish, start}
 use Rattle.lower_notes.specs.Noting as n
 use Rattle.lower_code.specs.Lowering.{how_many, form_fits}
 use Rattle.lower_lookup.specs.Types.{differ_of}
 use Rattle.note_parts.specs.Parts.{tree_walk, operands_walk}
-use Rattle.verse_sorts.specs.Sorts.{Sort}
 use Rattle.note_sorts.specs.Tabled.{found_of}
+use Rattle.note_members.specs.Reads.{indices_walk}
 
 module _ (p : Program) where
   -- the object of a callee
@@ -49,16 +49,12 @@ module _ (p : Program) where
   member_walk b ts sc a f = n.inner (program_of p) (found_of p) (differ_of p) b sc a
       then behind_walk ts sc a f
 
-  -- indices into what is of the sort q
-  abbrev pub indices_walk : Sort → Trees → Scope → Around → Walk
-  indices_walk = n.indices (program_of p) (found_of p) (differ_of p)
-
   abbrev pub picked_walk : Tree → Scope → Around → Form → Walk
   picked_walk b sc a f = tree_walk p b sc a then finish f 0 true
 
   abbrev pub indexed_walk : Tree → Trees → Scope → Around → Form → Walk
   indexed_walk b ts sc a f =
-      tree_walk p b sc a then indices_walk ((found_of p).sort (number_of b)) ts sc (up a) then
+      tree_walk p b sc a then indices_walk p ((found_of p).sort (number_of b)) ts sc (up a) then
       finish f (how_many ts) true
 
   abbrev pub quotient_walk : Trees → Scope → Around → Form → Walk
@@ -84,18 +80,3 @@ module _ (p : Program) where
   spawned_walk None pl sc a = ends
   spawned_walk (Some c) pl sc a =
       spawn_by c.0 c.1 sc a (spawned_callee (callee_of (program_of p) c.0 (form.picking None) pl))
-
-  -- what is read of an object by its member
-  abbrev pub read_walk : (n : ℕ) → Tree → Bytes → Scope → Around → Walk
-  read_walk n b x sc a =
-      tree_walk p b sc a then finish (member_form (ref_at (program_of p) n) x) 1 true
-
-  -- an arm, the arms of a group, and the group at the node n
-  abbrev pub arm_walk : Scope → Tree → Walk
-  arm_walk sc b = arm ((found_of p).sort (number_of b)) (tree_walk p b sc fresh)
-
-  abbrev pub arms_walk : Trees → Scope → Walk
-  arms_walk = n.task_arms (program_of p) (found_of p) (differ_of p)
-
-  abbrev pub group_walk : (n : ℕ) → Trees → Scope → Walk
-  group_walk n ts sc = grouped (how_many ts) ((found_of p).sort n) (arms_walk ts sc)

@@ -1,11 +1,8 @@
-//! Members, calls, indices, `set`, and forms whose parts are arms.
+//! The states of calls, of what is indexed, and of calls that are spawned.
 //!
 //! To be read in this order: `actions`, what is done with operands; `calls`, by what a callee
-//! stands for; `members`; `targets`, `set` and what it writes to; `tasks`.
+//! stands for.
 #![tactic(auto)]
 
 pub mod actions;
 pub mod calls;
-pub mod members;
-pub mod targets;
-pub mod tasks;

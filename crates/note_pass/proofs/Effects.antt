@@ -8,10 +8,10 @@ use Rattle.verse_tree.specs.ItemTree.{FunTree, MemberTree, field, method, ItemTr
 use Rattle.verse_tree.specs.Shapes.{ItemsShaped}
 use Rattle.verse_tree.specs.declared.tables.Effects.{Effects}
 use Rattle.verse_rules_walk.specs.Order.{AreNumbered}
-use Rattle.verse_names_declarations.specs.Counting.{Counted}
-use Rattle.verse_names_declarations.specs.declared.counting.Counts.{Counts}
+use Rattle.verse_names_tables.specs.Counting.{Counted}
+use Rattle.verse_names_tables.specs.declared.counting.Counts.{Counts}
 use Rattle.verse_names_declarations.specs.Known.{Known, known}
-use Rattle.verse_names_declarations.specs.Words.{effects_of}
+use Rattle.verse_names_tables.specs.Words.{effects_of}
 use Rattle.verse_names_scopes.specs.Visible.{World, inside, outside}
 use Rattle.verse_effects.specs.Specifiers.{do_combine, do_fit, fun_fits}
 use Rattle.verse_effects.specs.declared.specifiers.Spot.{Spot}

@@ -6,8 +6,8 @@ use Rattle.std.proofs.lemmas.List.{map-append}
 use Rattle.std.proofs.lemmas.Option.{same_Some, none-some}
 use Rattle.verse_base.proofs.Facts.{mapped_get, get_rest}
 use Rattle.verse_tree.specs.ItemTree.{FunTree, MemberTree, field, method, ItemTree, using, enumeration, class, function}
-use Rattle.verse_names_declarations.specs.Counting.{counted, counts_after, no_counts}
-use Rattle.verse_names_declarations.specs.declared.counting.Counts.{Counts}
+use Rattle.verse_names_tables.specs.Counting.{counted, counts_after, no_counts}
+use Rattle.verse_names_tables.specs.declared.counting.Counts.{Counts}
 use Rattle.verse_names_declarations.specs.Known.{known}
 use Rattle.verse_meaning.specs.Programs.{main_in, main_name, same_name}
 use Rattle.lower_code.specs.Programs.{methods_in, main_from}

@@ -10,10 +10,10 @@ use Rattle.verse_rules_types.specs.Types.{Class, classes_of}
 use Rattle.verse_rules_types.specs.Fitting.{parent_in}
 use Rattle.verse_rules_walk.specs.Around.{outside}
 use Rattle.verse_rules_walk.specs.Order.{AreNumbered}
-use Rattle.verse_names_declarations.specs.Names.{Table}
-use Rattle.verse_names_declarations.specs.Functions.{fun_function, param_type, spelled}
+use Rattle.verse_names_tables.specs.Names.{Table}
+use Rattle.verse_names_tables.specs.Functions.{fun_function, param_type, spelled}
 use Rattle.verse_names_declarations.specs.Known.{known}
-use Rattle.verse_names_declarations.specs.Words.{effects_of}
+use Rattle.verse_names_tables.specs.Words.{effects_of}
 use Rattle.verse_names_scopes.specs.Visible.{World}
 use Rattle.verse_names_scopes.specs.Subjects.{locals_behind}
 use Rattle.verse_check_typing.specs.Members.{fields_in}

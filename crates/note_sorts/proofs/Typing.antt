@@ -1,7 +1,6 @@
 -- The types of nodes, and the sorts of lists of types.
 use Rattle.std.proofs.Common.{◌≡◌, ℕ, ◌-◌, List, [], ◌∷◌, map, slice_get, Some, None, refl, sym, ap, ◌∙◌}
 use Rattle.std.proofs.Common.{rules}
-use Rattle.std.specs.Global.{Vec}
 use Rattle.std.specs.Option.{option_map}
 use Rattle.std.proofs.lemmas.Option.{slice_get-map}
 use Rattle.verse_tree.specs.declared.tables.Ty as ty
@@ -31,17 +30,14 @@ pub sorts_are : (ts : List Made) → sorts (map made_sort ts) ≡ t.sorts_of (ty
 sorts_are [] = refl
 sorts_are (x ∷ xs) = ap (s.more_sorts (made_sort x)) (sorts_are xs)
 
-tuple_seen : (parts : Vec Seen) → sort_of (seen.Tuple parts) ≡ s.tuple (sorts (sorts_of parts.items))
-tuple_seen parts = search (rules, the_lemmas)
-
 tuple_typed : (ts : List Made) → ty_of (ty.Tuple ts) ≡ tuple (tys (map ty_of ts))
 tuple_typed ts = search (rules, of_types)
 
 -- the sort of a tuple is that of its type, where the sorts of its parts are
-pub tuple_sort : (parts : Vec Seen) (a : Made) (ts these : List Made) → a ≡ ty.Tuple ts → these ≡ ts →
-    sorts_of parts.items ≡ map made_sort these → sort_of (seen.Tuple parts) ≡ t.sort_of (ty_of a)
-tuple_sort parts a ts these is same made =
-    tuple_seen parts ∙ ap (λ xs. s.tuple (sorts xs)) (made ∙ ap (map made_sort) same) ∙ ap s.tuple (sorts_are ts)
+pub tuple_sort : (x : Seen) (parts : List Seen) (a : Made) (ts these : List Made) → sort_of x ≡ s.tuple (sorts (sorts_of parts)) →
+    a ≡ ty.Tuple ts → these ≡ ts → sorts_of parts ≡ map made_sort these → sort_of x ≡ t.sort_of (ty_of a)
+tuple_sort x parts a ts these seen is same made =
+    seen ∙ ap (λ xs. s.tuple (sorts xs)) (made ∙ ap (map made_sort) same) ∙ ap s.tuple (sorts_are ts)
     ∙ ap t.sort_of (sym (ap ty_of is ∙ tuple_typed ts))
 
 never_seen : sort_of seen.Never ≡ s.never

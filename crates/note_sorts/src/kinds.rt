@@ -12,6 +12,7 @@ ghost use Rattle.note_sorts.specs.Kinds.{kind_sort};
 
 use crate::types;
 use std::alloc::Global;
+use std::rc::Rc;
 use verse_base::refusals::Memory;
 use verse_tree::programs::Program;
 use verse_tree::tables::Ty;
@@ -45,7 +46,7 @@ pub enum Kind {
 fn text(alloc: Global) -> Result<Sort, Memory>
     ensures { IfOk result (λ r. sort_of r ≡ list char) }
 {
-    Ok(Sort::List(Box::new(alloc, Sort::Char)?))
+    Ok(Sort::List(Rc::new(alloc, Sort::Char)?))
 }
 
 #[tactic(auto, unfolding(crate::specs::Tabled::found_of), using(crate::proofs::Typing::typed))]
@@ -61,7 +62,7 @@ fn node(alloc: Global, program: &Program, node: u32) -> Result<Sort, Memory>
 fn variable(alloc: Global, program: &Program, number: u32) -> Result<Sort, Memory>
     ensures { IfOk result (λ r. sort_of r ≡ var ((found_of program.now).sort number)) }
 {
-    Ok(Sort::Var(Box::new(alloc, node(alloc, program, number)?)?))
+    Ok(Sort::Var(Rc::new(alloc, node(alloc, program, number)?)?))
 }
 
 /// The sort of what stands before the values of a domain of this type.

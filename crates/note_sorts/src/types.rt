@@ -8,13 +8,13 @@ ghost use Rattle.verse_verify_notes.specs.View.{sort_of, sorts_of};
 ghost use Rattle.note_sorts.specs.Tabled.{made_sort};
 
 use std::alloc::Global;
+use std::rc::Rc;
 use verse_base::refusals::Memory;
 use verse_tree::tables::{MapOf, Ty};
 use verse_verify_notes::sorts::Sort;
 
 /// The sort of a type, with a call for each of its levels.
 #[cycle(sort)]
-#[tactic(auto, using(crate::proofs::Typing::tuple_sort))]
 pub fn sort_of(alloc: Global, ty: &Ty) -> Result<Sort, Memory>
     ensures { IfOk result (λ r. sort_of r ≡ t.sort_of (ty_of ty.now)) }
 {
@@ -27,20 +27,20 @@ pub fn sort_of(alloc: Global, ty: &Ty) -> Result<Sort, Memory>
         Ty::Char => Ok(Sort::Char),
         Ty::Enum(of) => Ok(Sort::Enum(*of)),
         Ty::Class(class) => Ok(Sort::Object(*class)),
-        Ty::Option(part) => Ok(Sort::Option(boxed(alloc, part.get())?)),
-        Ty::Array(part) => Ok(Sort::List(boxed(alloc, part.get())?)),
-        Ty::Task(part) => Ok(Sort::Task(boxed(alloc, part.get())?)),
-        Ty::Event(part) => Ok(Sort::Event(boxed(alloc, part.get())?)),
+        Ty::Option(part) => Ok(Sort::Option(shared(alloc, part.get())?)),
+        Ty::Array(part) => Ok(Sort::List(shared(alloc, part.get())?)),
+        Ty::Task(part) => Ok(Sort::Task(shared(alloc, part.get())?)),
+        Ty::Event(part) => Ok(Sort::Event(shared(alloc, part.get())?)),
         Ty::Map(parts) => Ok(map_sort(alloc, parts)?),
-        Ty::Tuple(parts) => Ok(Sort::Tuple(sorts_of(alloc, parts.as_slice())?)),
+        Ty::Tuple(parts) => Ok(Sort::Tuple(Rc::new(alloc, sorts_of(alloc, parts.as_slice())?)?)),
     }
 }
 
 #[cycle(sort)]
-fn boxed(alloc: Global, ty: &Ty) -> Result<Box<Sort>, Memory>
+fn shared(alloc: Global, ty: &Ty) -> Result<Rc<Sort>, Memory>
     ensures { IfOk result (λ r. sort_of r.value ≡ t.sort_of (ty_of ty.now)) }
 {
-    Ok(Box::new(alloc, sort_of(alloc, ty)?)?)
+    Ok(Rc::new(alloc, sort_of(alloc, ty)?)?)
 }
 
 #[cycle(sort)]
@@ -48,8 +48,8 @@ fn map_sort(alloc: Global, parts: &MapOf) -> Result<Sort, Memory>
     ensures { IfOk result (λ r. sort_of r ≡
         mapping (t.sort_of (map_of parts.now).0) (t.sort_of (map_of parts.now).1)) }
 {
-    let key = boxed(alloc, parts.key.get())?;
-    let value = boxed(alloc, parts.value.get())?;
+    let key = shared(alloc, parts.key.get())?;
+    let value = shared(alloc, parts.value.get())?;
     Ok(Sort::Map(key, value))
 }
 

@@ -14,9 +14,10 @@ use Rattle.verse_tree.specs.declared.tables.FieldInfo.{FieldInfo}
 use Rattle.verse_tree.specs.declared.tables.FunInfo.{FunInfo}
 use Rattle.verse_tree.specs.declared.tables.ClassInfo.{ClassInfo}
 use Rattle.verse_rules_types.specs.Types.{Ty, ty_of}
-use Rattle.verse_names_declarations.specs.Counting.{counted, counts_after, no_counts}
-use Rattle.verse_names_declarations.specs.declared.counting.Counts.{Counts}
-use Rattle.verse_names_declarations.specs.Known.{notes, known}
+use Rattle.verse_names_tables.specs.Counting.{counted, counts_after, no_counts}
+use Rattle.verse_names_tables.specs.declared.counting.Counts.{Counts}
+use Rattle.verse_names_tables.specs.Notes.{notes}
+use Rattle.verse_names_declarations.specs.Known.{known}
 use Rattle.verse_check_typing.specs.Members.{fields_in}
 use Rattle.verse_check_typing.specs.Facts.{type_at}
 use Rattle.verse_check_typing.specs.Loops.{index_of}

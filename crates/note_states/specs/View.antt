@@ -10,13 +10,13 @@ use Rattle.note_states.specs.declared.states.State.{State}
 use Rattle.note_states.specs.declared.standing.Standing.{Standing}
 
 abbrev pub deferred_of : Deferred → t.Deferred
-deferred_of d = record { entry = d.entry; locals = sorts_of d.locals.items }
+deferred_of d = record { entry = d.entry; locals = sorts_of d.locals.value.items }
 
 unfoldable pub state_of : State → t.State
 state_of x = record {
   func = x.func;
   arm = option_map sort_of x.arm;
-  locals = sorts_of x.locals.items;
+  locals = sorts_of x.locals.value.items;
   stack = reverse (sorts_of x.stack.items);
   tries = reverse (map mark_of x.tries.items);
   block = x.block;

@@ -9,9 +9,8 @@ use verse_base::refusals::Memory;
 use verse_verify_notes::notes::Mark;
 use verse_verify_notes::sorts::Sort;
 
-/// A copy of a sort, with a call for each of its levels.
-#[cycle(copy)]
-pub fn copy_sort(alloc: Global, sort: &Sort) -> Result<Sort, Memory>
+/// A copy of a sort, which shares its parts.
+pub fn copy_sort(sort: &Sort) -> Result<Sort, Memory>
     ensures { IfOk result (λ r. sort_of r ≡ sort_of sort.now) }
 {
     match sort {
@@ -26,35 +25,27 @@ pub fn copy_sort(alloc: Global, sort: &Sort) -> Result<Sort, Memory>
         Sort::Span => Ok(Sort::Span),
         Sort::Enum(of) => Ok(Sort::Enum(*of)),
         Sort::Object(class) => Ok(Sort::Object(*class)),
-        Sort::Var(part) => Ok(Sort::Var(copy_boxed(alloc, part)?)),
-        Sort::Event(part) => Ok(Sort::Event(copy_boxed(alloc, part)?)),
-        Sort::Task(part) => Ok(Sort::Task(copy_boxed(alloc, part)?)),
-        Sort::Option(part) => Ok(Sort::Option(copy_boxed(alloc, part)?)),
-        Sort::List(part) => Ok(Sort::List(copy_boxed(alloc, part)?)),
+        Sort::Var(part) => Ok(Sort::Var(part.clone()?)),
+        Sort::Event(part) => Ok(Sort::Event(part.clone()?)),
+        Sort::Task(part) => Ok(Sort::Task(part.clone()?)),
+        Sort::Option(part) => Ok(Sort::Option(part.clone()?)),
+        Sort::List(part) => Ok(Sort::List(part.clone()?)),
         Sort::Map(key, part) => {
-            let key = copy_boxed(alloc, key)?;
-            let part = copy_boxed(alloc, part)?;
+            let key = key.clone()?;
+            let part = part.clone()?;
             Ok(Sort::Map(key, part))
         }
-        Sort::Tuple(parts) => Ok(Sort::Tuple(copy_sorts(alloc, parts.as_slice())?)),
+        Sort::Tuple(parts) => Ok(Sort::Tuple(parts.clone()?)),
     }
 }
 
-#[cycle(copy)]
-fn copy_boxed(alloc: Global, sort: &Sort) -> Result<Box<Sort>, Memory>
-    ensures { IfOk result (λ r. sort_of r.value ≡ sort_of sort.now) }
-{
-    Ok(Box::new(alloc, copy_sort(alloc, sort)?)?)
-}
-
 /// A copy of sorts.
-#[cycle(copy)]
 pub fn copy_sorts(alloc: Global, sorts: &[Sort]) -> Result<Vec<Sort>, Memory>
     ensures { IfOk result (λ r. sorts_of r.items ≡ sorts_of sorts.now) }
 {
-    let mut copies = Vec::new(alloc);
+    let mut copies = Vec::with_capacity(alloc, sorts.len())?;
     'sorts: for sort in sorts {
-        copies.push(copy_sort(alloc, sort)?)?;
+        copies.push(copy_sort(sort)?)?;
     }
     Ok(copies)
 }
@@ -78,11 +69,11 @@ pub(crate) fn copy_numbers(alloc: Global, numbers: &[u32]) -> Result<Vec<u32>, M
 }
 
 /// A copy of a sort or none.
-pub(crate) fn copy_arm(alloc: Global, arm: &Option<Sort>) -> Result<Option<Sort>, Memory>
+pub(crate) fn copy_arm(arm: &Option<Sort>) -> Result<Option<Sort>, Memory>
     ensures { IfOk result (λ r. option_map sort_of r ≡ option_map sort_of arm.now) }
 {
     match arm {
         None => Ok(None),
-        Some(sort) => Ok(Some(copy_sort(alloc, sort)?)),
+        Some(sort) => Ok(Some(copy_sort(sort)?)),
     }
 }

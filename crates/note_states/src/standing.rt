@@ -105,13 +105,14 @@ impl Standing {
     }
 
     /// The operand on top goes into a local, which is of this sort.
-    pub fn puts(&mut self, local: u32, sort: Sort)
-        ensures { standing_of self.new ≡
-            option_map (s.puts local (sort_of sort)) (standing_of self.old) }
+    pub fn puts(&mut self, local: u32, sort: Sort) -> Result<(), Memory>
+        ensures { OnOk result (standing_of self.new ≡
+            option_map (s.puts local (sort_of sort)) (standing_of self.old)) }
     {
         if let Some(state) = &mut self.state {
-            state.puts(local, sort);
+            state.puts(local, sort)?;
         }
+        Ok(())
     }
 
     /// A domain goes into a local, and a count into the next one.
@@ -139,7 +140,8 @@ impl Standing {
     /// What a turn takes goes into a local, and what stands beside it into the next one.
     pub fn turns_with(&mut self, local: u32, value: Sort, beside: Sort) -> Result<(), Memory>
         ensures { OnOk result (standing_of self.new ≡
-            option_map (s.turns_with local (sort_of value) (sort_of beside)) (standing_of self.old)) }
+            option_map (s.turns_with local (sort_of value) (sort_of beside))
+            (standing_of self.old)) }
     {
         if let Some(state) = &mut self.state {
             state.turns_with(local, value, beside)?;

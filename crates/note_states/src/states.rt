@@ -15,6 +15,7 @@ use crate::copies::{copy_arm, copy_marks, copy_numbers, copy_sort, copy_sorts};
 use lower_code::arounds::next;
 use std::alloc::Global;
 use std::mem;
+use std::rc::Rc;
 use verse_base::limits::MOST_OPERATIONS;
 use verse_base::refusals::Memory;
 use verse_verify_notes::notes::{Mark, Spot};
@@ -26,7 +27,7 @@ pub struct Deferred {
     /// The index of its first operation.
     pub entry: u32,
     /// The locals that it is run with.
-    pub locals: Vec<Sort>,
+    pub locals: Rc<Vec<Sort>>,
 }
 
 /// The state at an operation.
@@ -35,7 +36,8 @@ pub struct State {
     func: u32,
     /// In an arm or in a task behind, the sort of what that gives.
     arm: Option<Sort>,
-    locals: Vec<Sort>,
+    /// Copies share them.
+    locals: Rc<Vec<Sort>>,
     /// The top is the last.
     stack: Vec<Sort>,
     /// The open Trys, the innermost last.
@@ -77,12 +79,12 @@ fn count(number: usize) -> Result<u32, Memory>
     Ok(number as u32)
 }
 
-fn copy_deferred(alloc: Global, deferred: &Deferred) -> Result<Deferred, Memory>
+fn copy_deferred(deferred: &Deferred) -> Result<Deferred, Memory>
     ensures { IfOk result (λ r. deferred_of r ≡ deferred_of deferred.now) }
 {
     Ok(Deferred {
         entry: deferred.entry,
-        locals: copy_sorts(alloc, deferred.locals.as_slice())?,
+        locals: deferred.locals.clone()?,
     })
 }
 
@@ -91,7 +93,7 @@ fn copy_defers(alloc: Global, defers: &[Deferred]) -> Result<Vec<Deferred>, Memo
 {
     let mut copies = Vec::new(alloc);
     'defers: for deferred in defers {
-        copies.push(copy_deferred(alloc, deferred)?)?;
+        copies.push(copy_deferred(deferred)?)?;
     }
     Ok(copies)
 }
@@ -149,12 +151,12 @@ fn local_at(locals: &[Sort], local: u32) -> Option<&Sort>
     }
 }
 
-fn copy_local(alloc: Global, locals: &[Sort], local: u32) -> Result<Sort, Memory>
+fn copy_local(locals: &[Sort], local: u32) -> Result<Sort, Memory>
     ensures { IfOk result (λ r. sort_of r ≡ or_none (slice_get (sorts_of locals.now) local)) }
 {
     match local_at(locals, local) {
         None => Ok(Sort::None),
-        Some(sort) => Ok(copy_sort(alloc, sort)?),
+        Some(sort) => Ok(copy_sort(sort)?),
     }
 }
 
@@ -199,7 +201,7 @@ impl State {
             alloc,
             func,
             arm: None,
-            locals: first_locals(alloc, params, locals)?,
+            locals: Rc::new(alloc, first_locals(alloc, params, locals)?)?,
             stack: Vec::new(alloc),
             tries: Vec::new(alloc),
             block: None,
@@ -215,8 +217,8 @@ impl State {
         ensures { IfOk result (λ r. state_of r ≡ state_of self.now) }
     {
         let alloc = self.alloc;
-        let arm = copy_arm(alloc, &self.arm)?;
-        let locals = copy_sorts(alloc, self.locals.as_slice())?;
+        let arm = copy_arm(&self.arm)?;
+        let locals = self.locals.clone()?;
         let stack = copy_sorts(alloc, self.stack.as_slice())?;
         let tries = copy_marks(alloc, self.tries.as_slice())?;
         let outer = copy_numbers(alloc, self.outer.as_slice())?;
@@ -241,8 +243,8 @@ impl State {
         ensures { IfOk result (λ r. spot_of r ≡ s.spot_of (state_of self.now)) }
     {
         let alloc = self.alloc;
-        let arm = copy_arm(alloc, &self.arm)?;
-        let locals = copy_sorts(alloc, self.locals.as_slice())?;
+        let arm = copy_arm(&self.arm)?;
+        let locals = self.locals.clone()?;
         let stack = copy_sorts(alloc, self.stack.as_slice())?;
         let tries = copy_marks(alloc, self.tries.as_slice())?;
         let outer = copy_numbers(alloc, self.outer.as_slice())?;
@@ -285,18 +287,19 @@ impl State {
     pub fn gets(&mut self, local: u32) -> Result<(), Memory>
         ensures { OnOk result (state_of self.new ≡ s.gets local (state_of self.old)) }
     {
-        let sort = copy_local(self.alloc, self.locals.as_slice(), local)?;
+        let sort = copy_local(self.locals.as_slice(), local)?;
         self.stack.push(sort)?;
         Ok(())
     }
 
     /// The operand on top goes into a local, which is of this sort.
     #[tactic(auto, unfolding(crate::specs::View::state_of))]
-    pub fn puts(&mut self, local: u32, sort: Sort)
-        ensures { state_of self.new ≡ s.puts local (sort_of sort) (state_of self.old) }
+    pub fn puts(&mut self, local: u32, sort: Sort) -> Result<(), Memory>
+        ensures { OnOk result (state_of self.new ≡
+            s.puts local (sort_of sort) (state_of self.old)) }
     {
         self.pops(1);
-        set_local(&mut self.locals, local, sort);
+        self.sets(local, sort)
     }
 
     /// The operand on top, which falls away.
@@ -312,10 +315,27 @@ impl State {
     }
 
     #[tactic(auto, unfolding(crate::specs::View::state_of))]
-    fn sets(&mut self, local: u32, sort: Sort)
-        ensures { state_of self.new ≡ with_set local (sort_of sort) (state_of self.old) }
+    fn sets(&mut self, local: u32, sort: Sort) -> Result<(), Memory>
+        ensures { OnOk result (state_of self.new ≡
+            with_set local (sort_of sort) (state_of self.old)) }
     {
-        set_local(&mut self.locals, local, sort);
+        let mut locals = copy_sorts(self.alloc, self.locals.as_slice())?;
+        set_local(&mut locals, local, sort);
+        self.locals = Rc::new(self.alloc, locals)?;
+        Ok(())
+    }
+
+    /// One local after the other.
+    #[tactic(auto, unfolding(crate::specs::View::state_of))]
+    fn sets_both(&mut self, local: u32, sort: Sort, other: u32, beside: Sort) -> Result<(), Memory>
+        ensures { OnOk result (state_of self.new ≡ with_set other (sort_of beside)
+            (with_set local (sort_of sort) (state_of self.old))) }
+    {
+        let mut locals = copy_sorts(self.alloc, self.locals.as_slice())?;
+        set_local(&mut locals, local, sort);
+        set_local(&mut locals, other, beside);
+        self.locals = Rc::new(self.alloc, locals)?;
+        Ok(())
     }
 
     /// A domain goes into a local, and a count into the next one.
@@ -324,9 +344,7 @@ impl State {
     {
         let count = next(local)?;
         let domain = self.take_top();
-        self.sets(local, domain);
-        self.sets(count, Sort::Int);
-        Ok(())
+        self.sets_both(local, domain, count, Sort::Int)
     }
 
     /// Both ends of a range go into a local, and a count into the next one.
@@ -335,9 +353,7 @@ impl State {
     {
         let count = next(local)?;
         self.pops(2);
-        self.sets(local, Sort::Span);
-        self.sets(count, Sort::Int);
-        Ok(())
+        self.sets_both(local, Sort::Span, count, Sort::Int)
     }
 
     /// What a turn takes goes into a local, and what stands beside it into the next one.
@@ -346,9 +362,7 @@ impl State {
             s.turns_with local (sort_of value) (sort_of beside) (state_of self.old)) }
     {
         let key = next(local)?;
-        self.sets(local, value);
-        self.sets(key, beside);
-        Ok(())
+        self.sets_both(local, value, key, beside)
     }
 
     /// In the Try of an index.
@@ -407,7 +421,7 @@ impl State {
         ensures { OnOk result (state_of self.new ≡ s.deferred at (state_of self.old)) }
     {
         let entry = next(at)?;
-        let locals = copy_sorts(self.alloc, self.locals.as_slice())?;
+        let locals = self.locals.clone()?;
         self.defers.push(Deferred { entry, locals })?;
         Ok(())
     }

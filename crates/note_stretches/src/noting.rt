@@ -208,8 +208,7 @@ impl Noting {
             (found_of program.now) kind)) (noted self.old)) }
     {
         let sort = kinds::sort(self.alloc, program, kind)?;
-        self.standing.puts(local, sort);
-        Ok(())
+        self.standing.puts(local, sort)
     }
 
     /// A domain goes into a local, and a count into the next one.

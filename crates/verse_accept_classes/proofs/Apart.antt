@@ -9,10 +9,11 @@ use Rattle.verse_tree.specs.Tree.{Bytes}
 use Rattle.verse_tree.specs.ItemTree.{FieldTree, MemberTree, field, method, ItemTree, using, enumeration, class, function}
 use Rattle.verse_rules_least.specs.Least.{Holds, other}
 use Rattle.verse_rules_types.specs.Fitting.{parent_of}
-use Rattle.verse_names_declarations.specs.Names.{look, put, Roll, called, came_again, is_repeated, call_all}
-use Rattle.verse_names_declarations.specs.Counting.{counted, counts_after, no_counts}
-use Rattle.verse_names_declarations.specs.declared.counting.Counts.{Counts}
-use Rattle.verse_names_declarations.specs.Known.{Note, notes, Known, known}
+use Rattle.verse_names_tables.specs.Names.{look, put, Roll, called, came_again, is_repeated, call_all}
+use Rattle.verse_names_tables.specs.Counting.{counted, counts_after, no_counts}
+use Rattle.verse_names_tables.specs.declared.counting.Counts.{Counts}
+use Rattle.verse_names_tables.specs.Notes.{Note, notes}
+use Rattle.verse_names_declarations.specs.Known.{Known, known}
 use Rattle.verse_names_declarations.specs.Lines.{on_class, line_of, ancestors, member_name, Home, home}
 use Rattle.verse_names_items.specs.Rules.{is_taken, is_field_defined, rules_at}
 use Rattle.verse_names_items.specs.Rules as rules

@@ -2,9 +2,10 @@
 use Rattle.std.proofs.Common.{◌≡◌, ℕ, zero, suc, List, [], ◌∷◌, length, ap, ◌∙◌, subst, inl}
 use Rattle.std.specs.Prelude.{Some, slice_get}
 use Rattle.verse_tree.specs.ItemTree.{FieldTree, MemberTree, field, method, ItemTree, using, enumeration, class, function}
-use Rattle.verse_names_declarations.specs.Counting.{counted, counts_after, no_counts}
-use Rattle.verse_names_declarations.specs.declared.counting.Counts.{Counts}
-use Rattle.verse_names_declarations.specs.Known.{Note, notes, Known, known}
+use Rattle.verse_names_tables.specs.Counting.{counted, counts_after, no_counts}
+use Rattle.verse_names_tables.specs.declared.counting.Counts.{Counts}
+use Rattle.verse_names_tables.specs.Notes.{Note, notes}
+use Rattle.verse_names_declarations.specs.Known.{Known, known}
 use Rattle.verse_names_declarations.specs.Lines.{line_of}
 use Rattle.verse_names_items.specs.Nodes.{ItemsBreak}
 use Rattle.verse_names_items.specs.Tables.{note_members}

@@ -3,9 +3,11 @@ use Rattle.std.proofs.Common.{◌≡◌, ℕ, suc, ◌+◌, List, [], ◌∷◌,
 use Rattle.std.proofs.lemmas.List.{length-map}
 use Rattle.verse_tree.specs.ItemTree.{ClassTree, ItemTree, using, enumeration, class, function}
 use Rattle.verse_rules_types.specs.Types.{Class}
-use Rattle.verse_names_declarations.specs.Counting.{counted, no_counts}
-use Rattle.verse_names_declarations.specs.declared.counting.Counts.{Counts}
-use Rattle.verse_names_declarations.specs.Known.{Note, notes, outlined, Known, known}
+use Rattle.verse_names_tables.specs.Counting.{counted, no_counts}
+use Rattle.verse_names_tables.specs.declared.counting.Counts.{Counts}
+use Rattle.verse_names_tables.specs.Notes.{Note, notes}
+use Rattle.verse_names_tables.specs.Indexing.{outlined}
+use Rattle.verse_names_declarations.specs.Known.{Known, known}
 use Rattle.verse_names_items.specs.Tables.{class_tables_from, class_tables}
 use Rattle.verse_rules.specs.Naming.{made_class}
 use Rattle.verse_meaning.specs.Programs.{classes}

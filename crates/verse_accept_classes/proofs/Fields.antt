@@ -12,9 +12,10 @@ use Rattle.verse_tree.specs.declared.tables.Ref.{Ref}
 use Rattle.verse_tree.specs.declared.tables.Ref.TheVariants as ref
 use Rattle.verse_rules_types.specs.Types.{Class}
 use Rattle.verse_rules_types.specs.Fitting.{parent_of}
-use Rattle.verse_names_declarations.specs.Names.{Table, look, keep}
-use Rattle.verse_names_declarations.specs.Counting.{no_counts}
-use Rattle.verse_names_declarations.specs.Known.{Note, Known, known}
+use Rattle.verse_names_tables.specs.Names.{Table, look, keep}
+use Rattle.verse_names_tables.specs.Counting.{no_counts}
+use Rattle.verse_names_tables.specs.Notes.{Note}
+use Rattle.verse_names_declarations.specs.Known.{Known, known}
 use Rattle.verse_names_declarations.specs.Lines.{on_class, line, line_of, Members, with_member, with_members, with_note, with_notes}
 use Rattle.verse_names_declarations.specs.Lines.{no_members}
 use Rattle.verse_names_items.specs.Tables.{field_info, own_fields, note_members, fields_of, class_table, class_tables_from, class_tables}

@@ -9,10 +9,10 @@ use Rattle.verse_tree.specs.Numbering.{list_nodes, list_numbered, field_nodes}
 use Rattle.verse_tree.specs.Numbering.{fun_nodes, fun_numbered, member_nodes, member_numbered, class_nodes}
 use Rattle.verse_tree.specs.Numbering.{items_nodes, items_numbered}
 use Rattle.verse_tree.specs.declared.tables.FunInfo.{FunInfo}
-use Rattle.verse_names_declarations.specs.Names.{Table}
-use Rattle.verse_names_declarations.specs.Functions.{Function, fun_function}
-use Rattle.verse_names_declarations.specs.Counting.{Counted, counted, counts_after, no_counts}
-use Rattle.verse_names_declarations.specs.declared.counting.Counts.{Counts}
+use Rattle.verse_names_tables.specs.Names.{Table}
+use Rattle.verse_names_tables.specs.Functions.{Function, fun_function}
+use Rattle.verse_names_tables.specs.Counting.{Counted, counted, counts_after, no_counts}
+use Rattle.verse_names_tables.specs.declared.counting.Counts.{Counts}
 use Rattle.verse_names_declarations.specs.Known.{Known, known, members_functions, functions}
 use Rattle.verse_names_scopes.specs.Visible.{inside, outside}
 use Rattle.verse_rules_walk.specs.Order.{AreNumbered}

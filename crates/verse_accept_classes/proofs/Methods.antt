@@ -10,11 +10,12 @@ use Rattle.verse_tree.specs.declared.tables.Ref.TheVariants as ref
 use Rattle.verse_rules_least.specs.Least.{Holds, other}
 use Rattle.verse_rules_types.specs.Types.{Class}
 use Rattle.verse_rules_types.specs.Fitting.{parent_of}
-use Rattle.verse_names_declarations.specs.Names.{Table, look, put, meanings, place}
-use Rattle.verse_names_declarations.specs.Words.{has}
-use Rattle.verse_names_declarations.specs.Counting.{counted, counts_after, no_counts, funs_after}
-use Rattle.verse_names_declarations.specs.declared.counting.Counts.{Counts}
-use Rattle.verse_names_declarations.specs.Known.{Note, notes, Known, known}
+use Rattle.verse_names_tables.specs.Names.{Table, look, put, meanings, place}
+use Rattle.verse_names_tables.specs.Words.{has}
+use Rattle.verse_names_tables.specs.Counting.{counted, counts_after, no_counts, funs_after}
+use Rattle.verse_names_tables.specs.declared.counting.Counts.{Counts}
+use Rattle.verse_names_tables.specs.Notes.{Note, notes}
+use Rattle.verse_names_declarations.specs.Known.{Known, known}
 use Rattle.verse_names_declarations.specs.Lines.{on_class, line, line_of, ancestors, Members, with_member, with_members, with_note}
 use Rattle.verse_names_declarations.specs.Lines.{with_notes}
 use Rattle.verse_names_declarations.specs.Lines.{no_members, all_members, Home, home}

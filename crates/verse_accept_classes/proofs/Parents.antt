@@ -8,10 +8,12 @@ use Rattle.verse_tree.specs.ItemTree.{ClassTree, ItemTree, using, enumeration, c
 use Rattle.verse_tree.specs.declared.tables.Ref.{Ref}
 use Rattle.verse_tree.specs.declared.tables.Ref.TheVariants as ref
 use Rattle.verse_rules_types.specs.Fitting.{parent_of}
-use Rattle.verse_names_declarations.specs.Names.{Table, look, put, put_absent, keep, keep_named}
-use Rattle.verse_names_declarations.specs.Counting.{Counted, counted, counts_after, named_class_as, no_counts}
-use Rattle.verse_names_declarations.specs.declared.counting.Counts.{Counts}
-use Rattle.verse_names_declarations.specs.Known.{Note, Index, indexed, index_all, no_index, class_number, parent_number, outlined, known}
+use Rattle.verse_names_tables.specs.Names.{Table, look, put, put_absent, keep, keep_named}
+use Rattle.verse_names_tables.specs.Counting.{Counted, counted, counts_after, named_class_as, no_counts}
+use Rattle.verse_names_tables.specs.declared.counting.Counts.{Counts}
+use Rattle.verse_names_tables.specs.Notes.{Note}
+use Rattle.verse_names_tables.specs.Indexing.{Index, indexed, index_all, no_index, class_number, parent_number, outlined}
+use Rattle.verse_names_declarations.specs.Known.{known}
 use Rattle.verse_meaning.specs.Programs.{same_name, class_named, classes}
 use Rattle.verse_meaning.specs.Programs as programs
 use Rattle.verse_meaning.proofs.Names.{same_bytes}

@@ -8,11 +8,13 @@ use Rattle.verse_tree.specs.ItemTree.{MemberTree, field, method, ItemTree, using
 use Rattle.verse_tree.specs.ItemTree.{class, function}
 use Rattle.verse_tree.specs.declared.tables.Ref.{Ref}
 use Rattle.verse_tree.specs.declared.tables.Ref.TheVariants as ref
-use Rattle.verse_names_declarations.specs.Names.{Table, look, put, put_absent, keep, keep_named, names, meanings}
-use Rattle.verse_names_declarations.specs.Words.{builtins}
-use Rattle.verse_names_declarations.specs.Counting.{Counted, counted, counts_after, funs_after, named_as, named_type_as, no_counts}
-use Rattle.verse_names_declarations.specs.declared.counting.Counts.{Counts}
-use Rattle.verse_names_declarations.specs.Known.{Index, indexed, index_all, no_index, notes, Known, known}
+use Rattle.verse_names_tables.specs.Names.{Table, look, put, put_absent, keep, keep_named, names, meanings}
+use Rattle.verse_names_tables.specs.Words.{builtins}
+use Rattle.verse_names_tables.specs.Counting.{Counted, counted, counts_after, funs_after, named_as, named_type_as, no_counts}
+use Rattle.verse_names_tables.specs.declared.counting.Counts.{Counts}
+use Rattle.verse_names_tables.specs.Notes.{notes}
+use Rattle.verse_names_tables.specs.Indexing.{Index, indexed, index_all, no_index}
+use Rattle.verse_names_declarations.specs.Known.{Known, known}
 use Rattle.verse_names_declarations.specs.Lines.{line_of, all_members}
 use Rattle.verse_names_items.specs.Nodes.{ItemsBreak}
 use Rattle.verse_names_items.specs.Tables.{fun_numbers}

@@ -18,9 +18,10 @@ use Rattle.verse_rules_types.specs.Types.{classes_of}
 use Rattle.verse_rules_types.specs.Types as ty
 use Rattle.verse_rules_types.specs.Fitting.{parent_of}
 use Rattle.verse_rules_walk.specs.Around.{Around}
-use Rattle.verse_names_declarations.specs.Names.{Table, look, place}
-use Rattle.verse_names_declarations.specs.Functions.{named_type, spelled, all_spelled}
-use Rattle.verse_names_declarations.specs.Known.{Note, Known, known}
+use Rattle.verse_names_tables.specs.Names.{Table, look, place}
+use Rattle.verse_names_tables.specs.Functions.{named_type, spelled, all_spelled}
+use Rattle.verse_names_tables.specs.Notes.{Note}
+use Rattle.verse_names_declarations.specs.Known.{Known, known}
 use Rattle.verse_names_declarations.specs.Lines.{on_class, line_of, all_members}
 use Rattle.verse_names_items.specs.Tables.{field_info, class_table, class_tables_from, class_tables, note_members}
 use Rattle.verse_names_scopes.specs.Visible.{World}
@@ -123,7 +124,7 @@ module _ (is : List ItemTree) (quiet : Quiet is) where
       none o e p q = empty (length k.outline) o e
         where
           noted : (ns : List Note) (c : ℕ) →
-              slice_get (map (Rattle.verse_names_declarations.specs.Known.outlined k.index.classes) ns) c ≡ None → slice_get ns c ≡ None
+              slice_get (map (Rattle.verse_names_tables.specs.Indexing.outlined k.index.classes) ns) c ≡ None → slice_get ns c ≡ None
           noted [] c e = refl
           noted (n ∷ ns) zero e = cc
           noted (n ∷ ns) (suc c) e = noted ns c e
@@ -185,12 +186,12 @@ module _ (is : List ItemTree) (quiet : Quiet is) where
     place_within x [] m e = cc
     place_within x (e ∷ t) m q = by (bytes_eq x e.0) q (place_within x t)
       where
-        further : (o : Option ℕ) (m : ℕ) → Rattle.verse_names_declarations.specs.Names.one_further o ≡ Some m →
+        further : (o : Option ℕ) (m : ℕ) → Rattle.verse_names_tables.specs.Names.one_further o ≡ Some m →
             (j : ℕ) × (o ≡ Some j) × (m ≡ j + 1)
         further None m e = cc
         further (Some j) m e = let same : j + 1 ≡ m = cc in (j, refl, sym same)
 
-        by : (b : Bool) → cond b (Some 0) (Rattle.verse_names_declarations.specs.Names.one_further (place x t)) ≡ Some m →
+        by : (b : Bool) → cond b (Some 0) (Rattle.verse_names_tables.specs.Names.one_further (place x t)) ≡ Some m →
             ((j : ℕ) → place x t ≡ Some j → j < length t) → m < suc (length t)
         by true q f = let same : 0 ≡ m = cc in omega (arith, same)
         by false q f = let g = further (place x t) m q in omega (arith, f g.0 g.1, g.2)

@@ -7,8 +7,8 @@ use Rattle.verse_tree.specs.Shapes.{ItemsShaped}
 use Rattle.verse_rules_types.specs.Fitting.{parent_of}
 use Rattle.verse_rules_walk.specs.Around.{Around}
 use Rattle.verse_rules_walk.specs.Order.{AreNumbered}
-use Rattle.verse_names_declarations.specs.Names.{Table}
-use Rattle.verse_names_declarations.specs.Functions.{fun_function, spelled}
+use Rattle.verse_names_tables.specs.Names.{Table}
+use Rattle.verse_names_tables.specs.Functions.{fun_function, spelled}
 use Rattle.verse_names_declarations.specs.Known.{known}
 use Rattle.verse_names_items.specs.Nodes.{ItemsBreak}
 use Rattle.verse_names_items.specs.Tables.{field_info, methods_of}

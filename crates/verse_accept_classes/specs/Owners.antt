@@ -2,8 +2,8 @@
 use Rattle.std.specs.Prelude.{ℕ, List, [], ◌∷◌, ◌++◌, Option, Some, None}
 use Rattle.verse_tree.specs.ItemTree.{FunTree, MemberTree, field, method, ItemTree, using}
 use Rattle.verse_tree.specs.ItemTree.{enumeration, class, function}
-use Rattle.verse_names_declarations.specs.Counting.{Counted}
-use Rattle.verse_names_declarations.specs.declared.counting.Counts.{Counts}
+use Rattle.verse_names_tables.specs.Counting.{Counted}
+use Rattle.verse_names_tables.specs.declared.counting.Counts.{Counts}
 use Rattle.verse_names_declarations.specs.Known.{Known}
 use Rattle.verse_names_scopes.specs.Visible.{World, inside, outside}
 

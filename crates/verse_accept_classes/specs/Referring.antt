@@ -4,8 +4,9 @@ use Rattle.verse_tree.specs.Tree.{Bytes}
 use Rattle.verse_tree.specs.ItemTree.{FieldTree, FunTree, EnumTree, ItemTree}
 use Rattle.verse_tree.specs.declared.tables.Ref.{Ref}
 use Rattle.verse_tree.specs.declared.tables.Ref.TheVariants as ref
-use Rattle.verse_names_declarations.specs.Names.{Table, look}
-use Rattle.verse_names_declarations.specs.Known.{Note, known}
+use Rattle.verse_names_tables.specs.Names.{Table, look}
+use Rattle.verse_names_tables.specs.Notes.{Note}
+use Rattle.verse_names_declarations.specs.Known.{known}
 use Rattle.verse_names_items.specs.Tables.{methods_of}
 use Rattle.verse_names_scopes.specs.Visible.{World, visible}
 use Rattle.verse_meaning.specs.Programs.{classes, enums, fields_from}

@@ -6,7 +6,7 @@ use Rattle.verse_base.specs.declared.refusals.Kind.{Kind as Error}
 use Rattle.verse_tree.specs.ItemTree.{FunTree, ItemTree}
 use Rattle.verse_tree.specs.declared.tables.Effects.{Effects}
 use Rattle.verse_tree.specs.declared.tables.FunInfo.{FunInfo}
-use Rattle.verse_names_declarations.specs.Names.{Table}
+use Rattle.verse_names_tables.specs.Names.{Table}
 use Rattle.verse_rules.specs.Sound.{completed}
 use Rattle.verse_accept.specs.Fronts.{Accepts}
 use Rattle.verse_value.specs.Val.{Val}

@@ -18,9 +18,11 @@ use Rattle.verse_rules_types.specs.Types as ty
 use Rattle.verse_rules_types.specs.Fitting.{fits, parent_of}
 use Rattle.verse_rules_walk.specs.Around.{Around}
 use Rattle.verse_rules_walk.specs.Nodes.{number_of_tree}
-use Rattle.verse_names_declarations.specs.Names.{Table, meanings}
-use Rattle.verse_names_declarations.specs.Functions.{fun_function}
-use Rattle.verse_names_declarations.specs.Known.{Note, outlined, known}
+use Rattle.verse_names_tables.specs.Names.{Table, meanings}
+use Rattle.verse_names_tables.specs.Functions.{fun_function}
+use Rattle.verse_names_tables.specs.Notes.{Note}
+use Rattle.verse_names_tables.specs.Indexing.{outlined}
+use Rattle.verse_names_declarations.specs.Known.{known}
 use Rattle.verse_names_declarations.specs.Lines.{Members, line, on_class, with_note, with_notes, no_members}
 use Rattle.verse_names_items.specs.Tables.{fun_numbers, methods_of, class_table, class_tables}
 use Rattle.verse_names_scopes.specs.Visible.{World}

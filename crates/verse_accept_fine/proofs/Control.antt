@@ -15,7 +15,7 @@ use Rattle.verse_rules_types.specs.Types as ty
 use Rattle.verse_rules_types.specs.Fitting.{fits, join, joined as joined_types}
 use Rattle.verse_rules_walk.specs.Around.{Around, caught as caught_around, freely, looped as looped_around, repeated}
 use Rattle.verse_rules_walk.specs.Around.{armed as armed_around, deferred as deferred_around}
-use Rattle.verse_names_declarations.specs.Names.{Table}
+use Rattle.verse_names_tables.specs.Names.{Table}
 use Rattle.verse_names_scopes.specs.Visible.{World}
 use Rattle.verse_check_typing.specs.Sets.{has_number}
 use Rattle.verse_check_typing.specs.Facts.{Facts, type_of}

@@ -10,7 +10,7 @@ use Rattle.verse_tree.specs.ItemTree.{ItemTree, using, enumeration, class, funct
 use Rattle.verse_tree.specs.declared.tables.Ref.TheVariants as ref
 use Rattle.verse_rules_types.specs.Types as ty
 use Rattle.verse_rules_walk.specs.Around.{Around}
-use Rattle.verse_names_declarations.specs.Names.{Table}
+use Rattle.verse_names_tables.specs.Names.{Table}
 use Rattle.verse_names_scopes.specs.Visible.{World}
 use Rattle.verse_check_typing.specs.Refs as refs
 use Rattle.verse_check_typing.specs.Sets.{has_name, with_name, with_names}

@@ -17,8 +17,10 @@ use Rattle.verse_tree.specs.declared.tables.Ref.TheVariants as ref
 use Rattle.verse_rules_types.specs.Types as ty
 use Rattle.verse_rules_types.specs.Fitting.{fits}
 use Rattle.verse_rules_walk.specs.Around.{Around}
-use Rattle.verse_names_declarations.specs.Names.{Table}
-use Rattle.verse_names_declarations.specs.Known.{Note, outlined, known}
+use Rattle.verse_names_tables.specs.Names.{Table}
+use Rattle.verse_names_tables.specs.Notes.{Note}
+use Rattle.verse_names_tables.specs.Indexing.{outlined}
+use Rattle.verse_names_declarations.specs.Known.{known}
 use Rattle.verse_names_items.specs.Tables.{tree_number}
 use Rattle.verse_names_scopes.specs.Visible.{World, visible}
 use Rattle.verse_check_typing.specs.Refs as refs

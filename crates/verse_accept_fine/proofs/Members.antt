@@ -13,7 +13,7 @@ use Rattle.verse_rules_types.specs.Types.{Ty, Class}
 use Rattle.verse_rules_types.specs.Types as ty
 use Rattle.verse_rules_walk.specs.Around.{Around}
 use Rattle.verse_rules_walk.specs.Nodes.{number_of_tree}
-use Rattle.verse_names_declarations.specs.Names.{Table}
+use Rattle.verse_names_tables.specs.Names.{Table}
 use Rattle.verse_names_declarations.specs.Known.{Known, known}
 use Rattle.verse_names_declarations.specs.Lines.{Members}
 use Rattle.verse_names_scopes.specs.Visible.{World}

@@ -14,7 +14,7 @@ use Rattle.verse_rules_types.specs.Types as ty
 use Rattle.verse_rules_types.specs.Fitting.{fits}
 use Rattle.verse_rules_walk.specs.Around.{Around, value}
 use Rattle.verse_rules_walk.specs.Nodes.{number_of_tree}
-use Rattle.verse_names_declarations.specs.Names.{Table, look}
+use Rattle.verse_names_tables.specs.Names.{Table, look}
 use Rattle.verse_names_scopes.specs.Visible.{World, either, visible, visible_throughout, with_name, with_local}
 use Rattle.verse_names_scopes.specs.Subjects.{subject, this_ref, rules_at}
 use Rattle.verse_check_typing.specs.Refs as refs

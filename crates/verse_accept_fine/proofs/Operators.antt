@@ -13,7 +13,7 @@ use Rattle.verse_rules_types.specs.Types as ty
 use Rattle.verse_rules_types.specs.Fitting.{fits, join}
 use Rattle.verse_rules_types.specs.Kinds.{is_key}
 use Rattle.verse_rules_walk.specs.Around.{Around}
-use Rattle.verse_names_declarations.specs.Names.{Table}
+use Rattle.verse_names_tables.specs.Names.{Table}
 use Rattle.verse_names_scopes.specs.Visible.{World}
 use Rattle.verse_check_typing.specs.Facts.{Facts, type_of}
 use Rattle.verse_check_typing.specs.Keys.{has_keys}

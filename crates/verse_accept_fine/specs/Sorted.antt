@@ -14,7 +14,7 @@ use Rattle.verse_rules_types.specs.Types.{Ty, Class, ty_of}
 use Rattle.verse_rules_types.specs.Types as t
 use Rattle.verse_rules_types.specs.Fitting.{parent_of}
 use Rattle.verse_rules_walk.specs.Around.{Around}
-use Rattle.verse_names_declarations.specs.Names.{Table}
+use Rattle.verse_names_tables.specs.Names.{Table}
 use Rattle.verse_names_declarations.specs.Known.{known}
 use Rattle.verse_names_scopes.specs.Visible.{World}
 use Rattle.verse_names_scopes.specs.Subjects.{subject}

@@ -14,7 +14,7 @@ use Rattle.verse_rules_types.specs.Types as ty
 use Rattle.verse_rules_walk.specs.Around.{Around, used_as}
 use Rattle.verse_rules_walk.specs.Around as around
 use Rattle.verse_rules_walk.specs.Nodes.{number_of_tree}
-use Rattle.verse_names_declarations.specs.Names.{Table}
+use Rattle.verse_names_tables.specs.Names.{Table}
 use Rattle.verse_names_declarations.specs.Known.{known}
 use Rattle.verse_names_declarations.specs.Lines.{Members}
 use Rattle.verse_names_scopes.specs.Visible.{World, visible}

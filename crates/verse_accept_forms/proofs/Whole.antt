@@ -6,7 +6,7 @@ use Rattle.verse_tree.specs.Tree as t
 use Rattle.verse_tree.specs.ItemTree.{ItemTree}
 use Rattle.verse_rules_walk.specs.Around.{Around, used_as, indexed}
 use Rattle.verse_rules_walk.specs.Around as around
-use Rattle.verse_names_declarations.specs.Names.{Table}
+use Rattle.verse_names_tables.specs.Names.{Table}
 use Rattle.verse_names_scopes.specs.Visible.{World}
 use Rattle.verse_check_typing.specs.Facts.{type_of}
 use Rattle.verse_check_typing.specs.Keys.{has_keys}

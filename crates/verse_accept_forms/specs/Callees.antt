@@ -8,7 +8,7 @@ use Rattle.verse_tree.specs.declared.exprs.Operator.TheVariants as op
 use Rattle.verse_rules_walk.specs.Around.{Around, used_as, indexed}
 use Rattle.verse_rules_walk.specs.Around as around
 use Rattle.verse_rules_walk.specs.Nodes.{number_of_tree}
-use Rattle.verse_names_declarations.specs.Names.{Table}
+use Rattle.verse_names_tables.specs.Names.{Table}
 use Rattle.verse_names_scopes.specs.Visible.{World, visible}
 use Rattle.verse_check_typing.specs.Refs as refs
 use Rattle.verse_check_typing.specs.TypeRules.{has_value}

@@ -7,10 +7,10 @@ use Rattle.verse_tree.specs.Tree.{Bytes}
 use Rattle.verse_tree.specs.ItemTree.{EnumTree, ItemTree, using, enumeration, class, function}
 use Rattle.verse_tree.specs.declared.tables.Ref.{Ref}
 use Rattle.verse_tree.specs.declared.tables.Ref.TheVariants as ref
-use Rattle.verse_names_declarations.specs.Names.{Table, look, put, put_absent, keep, keep_named}
-use Rattle.verse_names_declarations.specs.Counting.{Counted, counted, counts_after, no_counts, named_as}
-use Rattle.verse_names_declarations.specs.declared.counting.Counts.{Counts}
-use Rattle.verse_names_declarations.specs.Known.{Index, indexed, index_all, no_index}
+use Rattle.verse_names_tables.specs.Names.{Table, look, put, put_absent, keep, keep_named}
+use Rattle.verse_names_tables.specs.Counting.{Counted, counted, counts_after, no_counts, named_as}
+use Rattle.verse_names_tables.specs.declared.counting.Counts.{Counts}
+use Rattle.verse_names_tables.specs.Indexing.{Index, indexed, index_all, no_index}
 use Rattle.verse_check_typing.specs.Sets.{has_name, with_name, with_names}
 use Rattle.verse_check_typing.specs.Members.{names_in}
 use Rattle.verse_check_typing.specs.Facts.{enum_values}

@@ -6,10 +6,11 @@ use Rattle.verse_tree.specs.Tree.{Bytes}
 use Rattle.verse_tree.specs.ItemTree.{MemberTree, field, method}
 use Rattle.verse_tree.specs.declared.tables.Ref.{Ref}
 use Rattle.verse_tree.specs.declared.tables.Ref.TheVariants as ref
-use Rattle.verse_names_declarations.specs.Names.{Table, look, put, put_absent, keep, names}
-use Rattle.verse_names_declarations.specs.Words.{builtins}
-use Rattle.verse_names_declarations.specs.Counting.{fun_after}
-use Rattle.verse_names_declarations.specs.Known.{Note, Known}
+use Rattle.verse_names_tables.specs.Names.{Table, look, put, put_absent, keep, names}
+use Rattle.verse_names_tables.specs.Words.{builtins}
+use Rattle.verse_names_tables.specs.Counting.{fun_after}
+use Rattle.verse_names_tables.specs.Notes.{Note}
+use Rattle.verse_names_declarations.specs.Known.{Known}
 use Rattle.verse_names_declarations.specs.Lines.{Members, with_member, with_members, with_note, with_notes, no_members, line_of}
 use Rattle.verse_names_declarations.specs.Lines.{all_members}
 use Rattle.verse_names_scopes.specs.Visible.{with_methods, bare_members}

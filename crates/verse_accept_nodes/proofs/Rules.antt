@@ -18,7 +18,7 @@ use Rattle.verse_rules_walk.specs.Around.{Around}
 use Rattle.verse_rules_walk.specs.Nodes.{Node, number_of, alone, items_nodes}
 use Rattle.verse_rules_walk.proofs.Order.{items_alone}
 use Rattle.verse_names_scopes.specs.Visits.{Visit, ref_of, program_visits}
-use Rattle.verse_names_declarations.specs.Names.{Table, look}
+use Rattle.verse_names_tables.specs.Names.{Table, look}
 use Rattle.verse_check_typing.specs.Refs.{referred, ref_at}
 use Rattle.verse_check_typing.specs.Facts.{World, Facts, world_of, enum_values}
 use Rattle.verse_check_typing.specs.Sets.{has_name}

@@ -6,11 +6,13 @@ use Rattle.verse_tree.specs.Tree.{Bytes}
 use Rattle.verse_tree.specs.ItemTree.{MemberTree, field, method, ItemTree, using, enumeration, class, function}
 use Rattle.verse_tree.specs.declared.tables.Ref.{Ref}
 use Rattle.verse_tree.specs.declared.tables.Ref.TheVariants as ref
-use Rattle.verse_names_declarations.specs.Names.{Table, look, put, put_absent, keep, keep_named, names}
-use Rattle.verse_names_declarations.specs.Words.{builtins}
-use Rattle.verse_names_declarations.specs.Counting.{Counted, counted, named_as, named_type_as, fun_after, no_counts}
-use Rattle.verse_names_declarations.specs.declared.counting.Counts.{Counts}
-use Rattle.verse_names_declarations.specs.Known.{Index, indexed, index_all, no_index, Note, Known, known}
+use Rattle.verse_names_tables.specs.Names.{Table, look, put, put_absent, keep, keep_named, names}
+use Rattle.verse_names_tables.specs.Words.{builtins}
+use Rattle.verse_names_tables.specs.Counting.{Counted, counted, named_as, named_type_as, fun_after, no_counts}
+use Rattle.verse_names_tables.specs.declared.counting.Counts.{Counts}
+use Rattle.verse_names_tables.specs.Notes.{Note}
+use Rattle.verse_names_tables.specs.Indexing.{Index, indexed, index_all, no_index}
+use Rattle.verse_names_declarations.specs.Known.{Known, known}
 use Rattle.verse_names_declarations.specs.Lines.{Members, with_member, with_members, with_note, with_notes, no_members, line_of}
 use Rattle.verse_names_declarations.specs.Lines.{all_members}
 use Rattle.verse_names_scopes.specs.Visible.{World, with_methods, bare_members, inside, outside, either, visible}

@@ -10,9 +10,9 @@ use Rattle.verse_tree.specs.ItemTree.{FieldTree, ParamTree, FunTree, MemberTree,
 use Rattle.verse_tree.specs.ItemTree.{ItemTree, using, enumeration, class}
 use Rattle.verse_tree.specs.ItemTree.{function}
 use Rattle.verse_tree.specs.PostOrder.{expression, type_name}
-use Rattle.verse_names_declarations.specs.Names.{Table}
-use Rattle.verse_names_declarations.specs.Counting.{Counted}
-use Rattle.verse_names_declarations.specs.declared.counting.Counts.{Counts}
+use Rattle.verse_names_tables.specs.Names.{Table}
+use Rattle.verse_names_tables.specs.Counting.{Counted}
+use Rattle.verse_names_tables.specs.declared.counting.Counts.{Counts}
 use Rattle.verse_names_declarations.specs.Known.{Known}
 use Rattle.verse_names_scopes.specs.Visible.{World, inside}
 use Rattle.verse_names_scopes.specs.Visible as visible

@@ -17,9 +17,9 @@ use Rattle.verse_rules_walk.specs.Around.{Used, value, outside, Around, default_
 use Rattle.verse_rules_walk.specs.Nodes.{round_body}
 use Rattle.verse_rules_walk.specs.Specifiers.{writes, written_effects}
 use Rattle.verse_rules_walk.specs.Order.{AreNumbered}
-use Rattle.verse_names_declarations.specs.Names.{Table}
-use Rattle.verse_names_declarations.specs.Words.{has, effects_of}
-use Rattle.verse_names_declarations.specs.Functions.{fun_function, param_type, spelled}
+use Rattle.verse_names_tables.specs.Names.{Table}
+use Rattle.verse_names_tables.specs.Words.{has, effects_of}
+use Rattle.verse_names_tables.specs.Functions.{fun_function, param_type, spelled}
 use Rattle.verse_names_declarations.specs.Known.{known}
 use Rattle.verse_names_scopes.specs.Visible.{World, visible}
 use Rattle.verse_names_scopes.specs.Visible as worlds
@@ -194,7 +194,7 @@ module _ (is : List ItemTree) (arrays events : ℕ → Bool) (told : Told is arr
     body_fine m h =
         let names = world_names o.class in
         let shape = get_each (λ (x : Owned). FunShaped x.tree) (owned (known is).items) g o
-        (all_owned_shaped is Rattle.verse_names_declarations.specs.Counting.no_counts shaped) there in
+        (all_owned_shaped is Rattle.verse_names_tables.specs.Counting.no_counts shaped) there in
         subst (λ ys. Fine whole found (in_function (own_signature o) m) ys o.tree.body) (same_behind W names [] o.tree.params on_body.0)
         (trees is arrays events told quiet functions W names (round_body o.tree) (in_function (own_signature o) m) (body_allows m h)
         (λ e. (o.tree.written, refl)) o.tree.written refl (sites.params_behind W o.tree.params []) o.tree.body shape.2 on_body.2

@@ -9,7 +9,7 @@ use Rattle.verse_tree.specs.declared.tables.Effects.{Effects}
 use Rattle.verse_tree.specs.declared.tables.ClassInfo.{ClassInfo}
 use Rattle.verse_rules_types.specs.Types.{Ty, Class, tys}
 use Rattle.verse_rules_types.specs.Fitting.{fits, parent_of, is_same, all_same}
-use Rattle.verse_names_declarations.specs.Functions.{Function}
+use Rattle.verse_names_tables.specs.Functions.{Function}
 use Rattle.verse_names_declarations.specs.Known.{Known, known}
 use Rattle.verse_names_items.specs.Rules.{is_same_mark, has_same_effects, can_override}
 use Rattle.verse_names_items.specs.Tables.{methods_of, class_tables_from}

@@ -9,9 +9,9 @@ use Rattle.verse_tree.specs.PostOrder.{items_order, program_place}
 use Rattle.verse_rules_least.specs.Least.{Holds, other}
 use Rattle.verse_rules_types.specs.Types.{Ty}
 use Rattle.verse_rules_types.specs.Types as ty
-use Rattle.verse_names_declarations.specs.Functions.{Function, fun_function, param_type}
-use Rattle.verse_names_declarations.specs.Counting.{counted, counts_after, funs_after, no_counts}
-use Rattle.verse_names_declarations.specs.declared.counting.Counts.{Counts}
+use Rattle.verse_names_tables.specs.Functions.{Function, fun_function, param_type}
+use Rattle.verse_names_tables.specs.Counting.{counted, counts_after, funs_after, no_counts}
+use Rattle.verse_names_tables.specs.declared.counting.Counts.{Counts}
 use Rattle.verse_names_declarations.specs.Known.{Known, known}
 use Rattle.verse_names_items.specs.Rules.{is_main_name, has_main, is_ints, takes_inputs, is_void, is_start, can_start, misshapes_main}
 use Rattle.verse_names_items.specs.Rules.{lacks_main}

@@ -6,8 +6,8 @@ use Rattle.verse_tree.specs.ItemTree.{FieldTree, ClassTree, MemberTree, field, m
 use Rattle.verse_tree.specs.Shapes as shape
 use Rattle.verse_tree.specs.Shapes.{Shaped, as_body, as_expression, may_stand, AllOf, FieldShaped, FunShaped, MemberShaped, ItemShaped}
 use Rattle.verse_tree.specs.Shapes.{ItemsShaped}
-use Rattle.verse_names_declarations.specs.Counting.{counted, counts_after}
-use Rattle.verse_names_declarations.specs.declared.counting.Counts.{Counts}
+use Rattle.verse_names_tables.specs.Counting.{counted, counts_after}
+use Rattle.verse_names_tables.specs.declared.counting.Counts.{Counts}
 use Rattle.verse_meaning.specs.Programs.{classes, own_fields, class_named, parent_of, fields_from, same_name}
 use Rattle.verse_meaning_state.specs.Waits.{nth}
 use Rattle.verse_accept_scopes.specs.Lists.{Each}

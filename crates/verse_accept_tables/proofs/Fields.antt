@@ -8,9 +8,10 @@ use Rattle.verse_tree.specs.ItemTree.{MemberTree, field, method, ClassTree, Item
 use Rattle.verse_tree.specs.Sizes.{class_fields}
 use Rattle.verse_rules_types.specs.Types.{Class}
 use Rattle.verse_rules_types.specs.Fitting.{parent_of}
-use Rattle.verse_names_declarations.specs.Names.{Table}
-use Rattle.verse_names_declarations.specs.Counting.{no_counts}
-use Rattle.verse_names_declarations.specs.Known.{Note, Known, known}
+use Rattle.verse_names_tables.specs.Names.{Table}
+use Rattle.verse_names_tables.specs.Counting.{no_counts}
+use Rattle.verse_names_tables.specs.Notes.{Note}
+use Rattle.verse_names_declarations.specs.Known.{Known, known}
 use Rattle.verse_names_declarations.specs.Lines.{on_class, line, line_of}
 use Rattle.verse_names_items.specs.Tables.{own_fields, note_members, fields_of, class_tables_from, class_tables}
 use Rattle.verse_rules.specs.Naming.{made_field, made_class}

@@ -3,11 +3,11 @@ use Rattle.std.proofs.Common.{◌≡◌, ℕ, suc, List, [], ◌∷◌, ◌++◌
 use Rattle.std.proofs.lemmas.List.{map-append, length-map, length-append}
 use Rattle.verse_tree.specs.ItemTree.{MemberTree, field, method, ItemTree, using, enumeration, class, function}
 use Rattle.verse_tree.specs.declared.tables.FunInfo.{FunInfo}
-use Rattle.verse_names_declarations.specs.Names.{Table}
-use Rattle.verse_names_declarations.specs.Functions.{Function, fun_function}
-use Rattle.verse_names_declarations.specs.Counting.{counted, counts_after}
+use Rattle.verse_names_tables.specs.Names.{Table}
+use Rattle.verse_names_tables.specs.Functions.{Function, fun_function}
+use Rattle.verse_names_tables.specs.Counting.{counted, counts_after}
 use Rattle.verse_names_declarations.specs.Known.{members_functions, functions}
-use Rattle.verse_names_declarations.specs.declared.counting.Counts.{Counts}
+use Rattle.verse_names_tables.specs.declared.counting.Counts.{Counts}
 use Rattle.verse_rules.specs.Naming.{made_function}
 use Rattle.lower_code.specs.Programs.{methods_in, bodies_in}
 use Rattle.lower_simulation_runs.specs.Programs.{Defined, tree_in, number_in, methods_defined, defined_in}

@@ -6,10 +6,11 @@ use Rattle.verse_tree.specs.Tree.{Bytes}
 use Rattle.verse_tree.specs.ItemTree.{MemberTree, field, method, ItemTree}
 use Rattle.verse_tree.specs.declared.tables.Ref.{Ref}
 use Rattle.verse_tree.specs.declared.tables.Ref.TheVariants as ref
-use Rattle.verse_names_declarations.specs.Names.{Table, look, names}
-use Rattle.verse_names_declarations.specs.Words.{builtins}
-use Rattle.verse_names_declarations.specs.Counting.{fun_after}
-use Rattle.verse_names_declarations.specs.Known.{Note, known}
+use Rattle.verse_names_tables.specs.Names.{Table, look, names}
+use Rattle.verse_names_tables.specs.Words.{builtins}
+use Rattle.verse_names_tables.specs.Counting.{fun_after}
+use Rattle.verse_names_tables.specs.Notes.{Note}
+use Rattle.verse_names_declarations.specs.Known.{known}
 use Rattle.verse_names_declarations.specs.Lines.{Members, with_member, with_members, with_note, with_notes, no_members, all_members}
 use Rattle.verse_names_declarations.specs.Lines.{line_of}
 use Rattle.verse_names_scopes.specs.Visible.{World, with_methods, inside, outside, either, visible, with_name, with_local}

@@ -5,12 +5,12 @@ use Rattle.verse_tree.specs.Tree.{Bytes}
 use Rattle.verse_tree.specs.ItemTree.{FunTree, MemberTree, field, method, ClassTree, ItemTree, using, enumeration, class, function}
 use Rattle.verse_tree.specs.declared.tables.Ref.{Ref}
 use Rattle.verse_tree.specs.declared.tables.Ref.TheVariants as ref
-use Rattle.verse_names_declarations.specs.Names.{Table, look, put, put_absent, keep, keep_named}
-use Rattle.verse_names_declarations.specs.Words.{builtins}
-use Rattle.verse_names_declarations.specs.Counting.{Counted, counted, counts_after, funs_after, named_as, named_type_as}
-use Rattle.verse_names_declarations.specs.Counting.{named_class_as, no_counts}
-use Rattle.verse_names_declarations.specs.declared.counting.Counts.{Counts}
-use Rattle.verse_names_declarations.specs.Known.{Index, indexed, index_all, no_index}
+use Rattle.verse_names_tables.specs.Names.{Table, look, put, put_absent, keep, keep_named}
+use Rattle.verse_names_tables.specs.Words.{builtins}
+use Rattle.verse_names_tables.specs.Counting.{Counted, counted, counts_after, funs_after, named_as, named_type_as}
+use Rattle.verse_names_tables.specs.Counting.{named_class_as, no_counts}
+use Rattle.verse_names_tables.specs.declared.counting.Counts.{Counts}
+use Rattle.verse_names_tables.specs.Indexing.{Index, indexed, index_all, no_index}
 use Rattle.verse_meaning.specs.Programs.{classes}
 use Rattle.lower_bounds.proofs.Lists.{Each}
 use Rattle.lower_simulation_runs.specs.Programs.{Defined, a_function, methods_defined, defined_in}

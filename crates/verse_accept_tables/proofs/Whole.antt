@@ -11,7 +11,7 @@ use Rattle.verse_tree.specs.declared.tables.FunInfo.{FunInfo}
 use Rattle.verse_tree.specs.declared.tables.ClassInfo.{ClassInfo}
 use Rattle.verse_tree.specs.declared.tables.Names.{Names}
 use Rattle.verse_tree.specs.declared.tables.Ref.TheVariants as ref
-use Rattle.verse_names_declarations.specs.Counting.{no_counts}
+use Rattle.verse_names_tables.specs.Counting.{no_counts}
 use Rattle.verse_names_declarations.specs.Known.{known}
 use Rattle.verse_names_items.specs.Nodes.{ItemsBreak}
 use Rattle.verse_rules.specs.Sound.{completed, size_of}

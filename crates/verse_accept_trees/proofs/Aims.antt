@@ -15,7 +15,7 @@ use Rattle.verse_rules_types.specs.Types as ty
 use Rattle.verse_rules_types.specs.Kinds.{is_key}
 use Rattle.verse_rules_walk.specs.Around.{Around, used_as}
 use Rattle.verse_rules_walk.specs.Around as around
-use Rattle.verse_names_declarations.specs.Names.{Table}
+use Rattle.verse_names_tables.specs.Names.{Table}
 use Rattle.verse_names_scopes.specs.Visible.{World, visible}
 use Rattle.verse_check_typing.specs.Refs as refs
 use Rattle.verse_check_typing.specs.Facts.{Facts, type_of}

@@ -17,7 +17,7 @@ use Rattle.verse_tree.specs.declared.tables.Ref.TheVariants as ref
 use Rattle.verse_rules_walk.specs.Around.{Used, free, value, argument, callee, object, target, spawned, Around, used_as}
 use Rattle.verse_rules_walk.specs.Around as around
 use Rattle.verse_rules_walk.specs.Nodes.{number_of_tree}
-use Rattle.verse_names_declarations.specs.Names.{Table}
+use Rattle.verse_names_tables.specs.Names.{Table}
 use Rattle.verse_names_scopes.specs.Visible.{World, visible}
 use Rattle.verse_names_scopes.specs.Subjects.{subject}
 use Rattle.verse_check_typing.specs.Refs as refs

@@ -13,7 +13,7 @@ use Rattle.verse_rules_types.specs.Types.{Ty}
 use Rattle.verse_rules_types.specs.Types as ty
 use Rattle.verse_rules_walk.specs.Around.{Used, free, callee, object, argument, value, target, base, spawned, Around, indexed_use}
 use Rattle.verse_rules_walk.specs.Nodes.{number_of_tree}
-use Rattle.verse_names_declarations.specs.Names.{Table}
+use Rattle.verse_names_tables.specs.Names.{Table}
 use Rattle.verse_names_scopes.specs.Visible.{World}
 use Rattle.verse_names_scopes.specs.Subjects.{this_ref}
 use Rattle.verse_check_typing.specs.Refs as refs

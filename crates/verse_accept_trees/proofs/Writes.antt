@@ -9,7 +9,7 @@ use Rattle.verse_tree.specs.declared.exprs.Assign.TheVariants as assign
 use Rattle.verse_rules_types.specs.Types.{Ty}
 use Rattle.verse_rules_types.specs.Types as ty
 use Rattle.verse_rules_types.specs.Fitting.{fits}
-use Rattle.verse_names_declarations.specs.Names.{Table}
+use Rattle.verse_names_tables.specs.Names.{Table}
 use Rattle.verse_check_typing.specs.Facts.{Facts, type_of, or_never}
 use Rattle.verse_check_typing.specs.Parts.{is_int, sum_of, is_summed, can_assign, assigned_type}
 use Rattle.verse_meaning.specs.Programs.{Program}

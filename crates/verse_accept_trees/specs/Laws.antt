@@ -4,7 +4,7 @@ use Rattle.verse_tree.specs.Tree.{Written, Tree}
 use Rattle.verse_tree.specs.ItemTree.{ItemTree}
 use Rattle.verse_tree.specs.Shapes.{as_body, Shaped}
 use Rattle.verse_rules_walk.specs.Around.{Around, value}
-use Rattle.verse_names_declarations.specs.Names.{Table}
+use Rattle.verse_names_tables.specs.Names.{Table}
 use Rattle.verse_names_scopes.specs.Visible.{World}
 use Rattle.verse_sound_rules.specs.Found.{Allowed}
 use Rattle.verse_sound_rules.specs.Fine.{Fine}

@@ -15,10 +15,10 @@ use Rattle.verse_tree.specs.declared.tables.Ref.{Ref}
 use Rattle.verse_tree.specs.declared.tables.Ref.TheVariants as ref
 use Rattle.verse_rules_types.specs.Types.{Ty, Tys, ty_of}
 use Rattle.verse_rules_walk.specs.Order.{AreNumbered}
-use Rattle.verse_names_declarations.specs.Names.{Table}
-use Rattle.verse_names_declarations.specs.Functions.{spelled, all_spelled}
-use Rattle.verse_names_declarations.specs.Counting.{Counted}
-use Rattle.verse_names_declarations.specs.declared.counting.Counts.{Counts}
+use Rattle.verse_names_tables.specs.Names.{Table}
+use Rattle.verse_names_tables.specs.Functions.{spelled, all_spelled}
+use Rattle.verse_names_tables.specs.Counting.{Counted}
+use Rattle.verse_names_tables.specs.declared.counting.Counts.{Counts}
 use Rattle.verse_names_declarations.specs.Known.{Known, known}
 use Rattle.verse_names_scopes.specs.Visible.{World, inside}
 use Rattle.verse_names_scopes.specs.Visible as visible

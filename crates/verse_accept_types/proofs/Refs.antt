@@ -8,7 +8,7 @@ use Rattle.verse_tree.specs.Shapes.{ItemsShaped}
 use Rattle.verse_tree.specs.Numbering.{items_nodes}
 use Rattle.verse_tree.specs.declared.tables.Ref.{Ref}
 use Rattle.verse_tree.specs.declared.tables.Ref.TheVariants as ref
-use Rattle.verse_names_declarations.specs.Names.{look}
+use Rattle.verse_names_tables.specs.Names.{look}
 use Rattle.verse_names_declarations.specs.Known.{known}
 use Rattle.verse_names_items.specs.Tables.{enum_tables}
 use Rattle.verse_names_scopes.specs.Visible.{World, inside, outside, visible}

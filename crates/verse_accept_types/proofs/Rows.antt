@@ -17,7 +17,7 @@ use Rattle.verse_tree.specs.declared.tables.Ref.TheVariants as ref
 use Rattle.verse_rules_types.specs.Types as t
 use Rattle.verse_rules_types.specs.Types.{Ty, Tys, ty_of, classes_of}
 use Rattle.verse_rules_types.specs.Fitting.{parent_of, join}
-use Rattle.verse_names_declarations.specs.Functions.{named_type}
+use Rattle.verse_names_tables.specs.Functions.{named_type}
 use Rattle.verse_rules_walk.specs.Nodes.{number_of_tree}
 use Rattle.verse_check_typing.specs.Refs.{ref_at, function_of, builtin_by}
 use Rattle.verse_check_typing.specs.declared.builtins.Builtin.{Builtin}

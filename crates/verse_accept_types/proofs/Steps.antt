@@ -9,7 +9,7 @@ use Rattle.verse_rules_types.specs.Kinds.{levels}
 use Rattle.verse_rules_least.specs.Least.{each, first_true}
 use Rattle.verse_rules_walk.specs.Around.{Around}
 use Rattle.verse_rules_walk.specs.Nodes.{Node}
-use Rattle.verse_names_declarations.specs.Functions.{named_type}
+use Rattle.verse_names_tables.specs.Functions.{named_type}
 use Rattle.verse_check_typing.specs.Refs.{ref_at}
 use Rattle.verse_check_typing.specs.Facts.{World, Facts, named_ref, type_at}
 use Rattle.verse_check_typing.specs.Judgement.{Judgement}

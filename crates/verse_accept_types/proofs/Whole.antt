@@ -27,8 +27,8 @@ use Rattle.verse_rules_walk.specs.Nodes.{Node, alone, number_of}
 use Rattle.verse_rules_walk.specs.Nodes as walked
 use Rattle.verse_rules_walk.specs.Order.{AreNumbered}
 use Rattle.verse_rules_walk.proofs.Order.{items_alone, numbers_in_row}
-use Rattle.verse_names_declarations.specs.Names.{Table}
-use Rattle.verse_names_declarations.specs.Functions.{param_type, spelled}
+use Rattle.verse_names_tables.specs.Names.{Table}
+use Rattle.verse_names_tables.specs.Functions.{param_type, spelled}
 use Rattle.verse_names_declarations.specs.Known.{known}
 use Rattle.verse_names_scopes.specs.Visible.{World}
 use Rattle.verse_names_scopes.specs.Visible as visible

@@ -11,8 +11,8 @@ use Rattle.verse_tree.specs.ItemTree.{ItemTree}
 use Rattle.verse_rules_types.specs.Types.{Ty, tys}
 use Rattle.verse_rules_types.specs.Fitting.{all_same}
 use Rattle.verse_rules_walk.specs.Around.{Around}
-use Rattle.verse_names_declarations.specs.Names.{Table}
-use Rattle.verse_names_declarations.specs.Functions.{Function}
+use Rattle.verse_names_tables.specs.Names.{Table}
+use Rattle.verse_names_tables.specs.Functions.{Function}
 use Rattle.verse_names_declarations.specs.Known.{Known, known}
 use Rattle.verse_names_items.specs.Rules.{is_same_mark, has_same_effects, can_override}
 use Rattle.verse_names_items.specs.Tables.{methods_of}

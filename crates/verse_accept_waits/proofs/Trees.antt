@@ -13,7 +13,7 @@ use Rattle.verse_rules_walk.specs.Around.{Used, free, callee, object, argument, 
 use Rattle.verse_rules_walk.specs.Around.{used_as}
 use Rattle.verse_rules_walk.specs.Around as around
 use Rattle.verse_rules_walk.specs.Nodes.{number_of_tree}
-use Rattle.verse_names_declarations.specs.Names.{Table}
+use Rattle.verse_names_tables.specs.Names.{Table}
 use Rattle.verse_names_scopes.specs.Visible.{World}
 use Rattle.verse_check_typing.specs.Sets.{has_number}
 use Rattle.verse_check_typing.specs.Callees as types

@@ -11,9 +11,9 @@ ghost use Rattle.verse_check_typing.specs.Views.{names_of};
 use std::alloc::Global;
 use verse_base::refusals::Memory;
 use verse_check_typing::sets::NameSet;
-use verse_names_declarations::counting::next;
 use verse_names_declarations::known::{Known, know};
 use verse_names_declarations::members::{Members, all_members};
+use verse_names_tables::counting::next;
 use verse_tree::items::Item;
 use verse_tree::names::Name;
 

@@ -3,7 +3,7 @@
 ghost use Rattle.std.specs.Prelude.{◌≡◌, IfOk};
 ghost use Rattle.verse_tree.specs.View.{shape_of};
 ghost use Rattle.verse_tree.specs.ItemView.{item_of, member_of, param_of};
-ghost use Rattle.verse_names_declarations.specs.Functions.{named_type};
+ghost use Rattle.verse_names_tables.specs.Functions.{named_type};
 ghost use Rattle.verse_rules_walk.specs.Views.{around_of};
 ghost use Rattle.verse_check_typing.specs.Facts as f;
 ghost use Rattle.verse_check_typing.specs.Rows as rows;

@@ -6,7 +6,8 @@ use Rattle.verse_tree.specs.ItemTree.{ItemTree, using, enumeration, class, funct
 use Rattle.verse_tree.specs.declared.tables.Names.{Names}
 use Rattle.verse_tree.specs.declared.tables.Ref.{Ref}
 use Rattle.verse_rules_types.specs.Types.{Ty, never, Class, classes_of}
-use Rattle.verse_names_declarations.specs.Known.{Known, known, Note}
+use Rattle.verse_names_tables.specs.Notes.{Note}
+use Rattle.verse_names_declarations.specs.Known.{Known, known}
 use Rattle.verse_names_declarations.specs.Lines.{Members, all_members}
 use Rattle.verse_check_typing.specs.Refs.{ref_at}
 use Rattle.verse_rules_walk.specs.Nodes.{number_of_tree}

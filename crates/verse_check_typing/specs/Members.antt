@@ -10,7 +10,7 @@ use Rattle.verse_tree.specs.declared.tables.Ref.TheVariants as ref
 use Rattle.verse_rules_types.specs.Types.{Ty, never, int, enum, class, array, task, event, mapping}
 use Rattle.verse_rules_types.specs.Types.{ty_of}
 use Rattle.verse_rules_types.specs.Fitting.{fits}
-use Rattle.verse_names_declarations.specs.Names.{Table, look, place}
+use Rattle.verse_names_tables.specs.Names.{Table, look, place}
 use Rattle.verse_names_declarations.specs.Lines.{Members}
 use Rattle.verse_check_typing.specs.Facts.{Facts, classes, type_of, or_never}
 use Rattle.verse_check_typing.specs.Sets.{has_name, has_number, with_number}

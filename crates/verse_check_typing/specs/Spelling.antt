@@ -5,7 +5,7 @@ use Rattle.verse_tree.specs.Tree as t
 use Rattle.verse_tree.specs.declared.tables.Ref.{Ref}
 use Rattle.verse_rules_types.specs.Types.{Ty, Tys, void, int, logic, char, string, option, array}
 use Rattle.verse_rules_types.specs.Types.{task, event, mapping, tuple, no_tys, more_tys}
-use Rattle.verse_names_declarations.specs.Functions.{named_type}
+use Rattle.verse_names_tables.specs.Functions.{named_type}
 use Rattle.verse_check_typing.specs.Refs.{ref_at}
 
 abbrev mutual

@@ -17,7 +17,7 @@ use Rattle.verse_tree.specs.declared.tables.FunInfo.{FunInfo}
 use Rattle.verse_tree.specs.declared.tables.Ty.{Ty as Made}
 use Rattle.verse_rules_types.specs.Types.{Ty, never, void, ty_of}
 use Rattle.verse_rules_types.specs.Fitting.{fits}
-use Rattle.verse_names_declarations.specs.Functions.{named_type}
+use Rattle.verse_names_tables.specs.Functions.{named_type}
 use Rattle.verse_rules_least.specs.Least.{each, fault_at, first, first_true, Holds, Told, Placed}
 use Rattle.verse_rules_least.specs.Least.{Broken, IsLeast, StandsAt}
 use Rattle.verse_rules_least.specs.declared.faults.Fault.{Fault}

@@ -4,7 +4,7 @@ ghost use Rattle.std.specs.Prelude.{◌≡◌, map, IfOk};
 ghost use Rattle.verse_tree.specs.View.{written_of, writtens};
 ghost use Rattle.verse_tree.specs.TypeView as written;
 ghost use Rattle.verse_rules_types.specs.Types.{ty_of, map_of, tys};
-ghost use Rattle.verse_names_declarations.specs.Functions as functions;
+ghost use Rattle.verse_names_tables.specs.Functions as functions;
 ghost use Rattle.verse_check_typing.specs.Spelling.{spelled_by, all_spelled_by};
 ghost use Rattle.verse_check_typing.specs.Rows as rows;
 ghost use Rattle.verse_check_typing.specs.Views.{facts_of};

@@ -5,8 +5,8 @@ use Rattle.std.proofs.Common.{slice_get}
 use Rattle.verse_base.proofs.Facts.{get_rest, get_mapped}
 use Rattle.verse_tree.specs.ItemTree.{FieldTree, ClassTree, MemberTree, field, method, ItemTree, using, enumeration}
 use Rattle.verse_tree.specs.ItemTree.{class, function}
-use Rattle.verse_names_declarations.specs.Counting.{counted, counts_after, no_counts}
-use Rattle.verse_names_declarations.specs.declared.counting.Counts.{Counts}
+use Rattle.verse_names_tables.specs.Counting.{counted, counts_after, no_counts}
+use Rattle.verse_names_tables.specs.declared.counting.Counts.{Counts}
 use Rattle.verse_names_declarations.specs.Known.{known}
 use Rattle.verse_sorts.specs.Typing.{at}
 use Rattle.verse_meaning_state.specs.Waits.{nth}

@@ -4,7 +4,7 @@ use Rattle.std.proofs.Common.{◌∙◌, arith, append_assoc, append-nil}
 use Rattle.std.specs.Prelude.{Some, None, slice_get}
 use Rattle.verse_rules_types.specs.Types.{Class}
 use Rattle.verse_rules_types.specs.Fitting.{parent_of}
-use Rattle.verse_names_declarations.specs.Known.{Note}
+use Rattle.verse_names_tables.specs.Notes.{Note}
 use Rattle.verse_names_declarations.specs.Lines.{line, on_class, others, Members, with_note}
 use Rattle.verse_names_declarations.specs.Lines.{with_notes}
 

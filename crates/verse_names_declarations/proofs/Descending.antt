@@ -10,14 +10,14 @@ use Rattle.verse_rules_types.specs.Types.{Class}
 use Rattle.verse_rules_types.specs.Fitting.{parent_of}
 use Rattle.verse_rules_types.specs.Depths.{Ends, top, up}
 use Rattle.verse_rules_types.proofs.Levels.{once, other_number, same_number, high_ends, is_high}
-use Rattle.verse_names_declarations.specs.Notes.{Note}
+use Rattle.verse_names_tables.specs.Notes.{Note}
 use Rattle.verse_names_declarations.specs.Members.{Members, members_view, no_members, as_of, with_note, members_of, line, line_of, on_class}
 use Rattle.verse_names_declarations.specs.Members.{others, ancestors}
 use Rattle.verse_names_declarations.specs.Descents.{Tells, TellsAbove, AreTraced, entry_in}
 use Rattle.verse_names_declarations.specs.declared.members.Members.{Members as Made}
 use Rattle.verse_names_declarations.specs.declared.descents.Descent.{Descent}
 use Rattle.verse_names_declarations.proofs.Membering.{all_as}
-use Rattle.verse_names_declarations.proofs.Sharing.{get_set, get_other}
+use Rattle.verse_names_tables.proofs.Sharing.{get_set, get_other}
 
 pub not_same : (a b : ℕ) → nat_eq a b ≡ false → a ≡ b → ⊥
 not_same a b e s = let k : true ≡ false = sym (itself b) ∙ ap (λ c. nat_eq c b) (sym s) ∙ e in cc

@@ -5,10 +5,10 @@ use Rattle.verse_tree.specs.Tree.{Bytes}
 use Rattle.verse_tree.specs.ItemTree.{MemberTree, field, method}
 use Rattle.verse_tree.specs.declared.tables.Ref.{Ref}
 use Rattle.verse_tree.specs.declared.tables.Ref.TheVariants as ref
-use Rattle.verse_names_declarations.specs.Names.{look, place, one_further, put, put_absent, keep, meanings}
-use Rattle.verse_names_declarations.specs.Shared.{second}
-use Rattle.verse_names_declarations.specs.Counting.{fun_after}
-use Rattle.verse_names_declarations.specs.Notes.{Note}
+use Rattle.verse_names_tables.specs.Names.{look, place, one_further, put, put_absent, keep, meanings}
+use Rattle.verse_names_tables.specs.Shared.{second}
+use Rattle.verse_names_tables.specs.Counting.{fun_after}
+use Rattle.verse_names_tables.specs.Notes.{Note}
 use Rattle.verse_names_declarations.specs.Members.{field_entry, method_entry, moved, fun_numbers, stands, Members, as_of}
 use Rattle.verse_names_declarations.specs.Members.{with_field, with_member, with_members, with_note, with_notes, members_of, no_members}
 

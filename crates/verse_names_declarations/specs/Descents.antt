@@ -3,7 +3,7 @@ use Rattle.std.specs.Prelude.{◌≡◌, ℕ, suc, ◌<◌, List, Option, Some, 
 use Rattle.verse_rules_types.specs.Types.{Class}
 use Rattle.verse_rules_types.specs.Fitting.{parent_of}
 use Rattle.verse_rules_types.specs.Depths.{height}
-use Rattle.verse_names_declarations.specs.Notes.{Note}
+use Rattle.verse_names_tables.specs.Notes.{Note}
 use Rattle.verse_names_declarations.specs.Members.{members_of, members_view, line, on_class}
 use Rattle.verse_names_declarations.specs.declared.members.Members.{Members}
 use Rattle.verse_names_declarations.specs.declared.descents.Descent.{Descent}

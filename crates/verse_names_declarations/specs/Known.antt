@@ -1,63 +1,14 @@
 -- What is known of the items of a program before its bodies are looked at.
-use Rattle.std.specs.Prelude.{ℕ, List, [], ◌∷◌, ◌++◌, map, Option, Some, None, codes}
-use Rattle.verse_tree.specs.Tree.{Bytes}
-use Rattle.verse_tree.specs.ItemTree.{MemberTree, field, method, ClassTree, ItemTree, using}
-use Rattle.verse_tree.specs.ItemTree.{enumeration, class, function}
-use Rattle.verse_tree.specs.ItemView.{class_of}
-use Rattle.verse_tree.specs.declared.tables.Ref.{Ref}
-use Rattle.verse_tree.specs.declared.tables.Ref.TheVariants as ref
+use Rattle.std.specs.Prelude.{List, [], ◌∷◌, ◌++◌, map}
+use Rattle.verse_tree.specs.ItemTree.{MemberTree, field, method, ItemTree, using, enumeration}
+use Rattle.verse_tree.specs.ItemTree.{class, function}
 use Rattle.verse_rules_types.specs.Types.{Class, classes_of}
-use Rattle.verse_names_declarations.specs.Names.{Table, Roll, look, keep_named, call_named}
-use Rattle.verse_names_declarations.specs.Views.{table_of, roll_of}
-use Rattle.verse_names_declarations.specs.Words.{has}
-use Rattle.verse_names_declarations.specs.Functions.{Function, fun_function, function_of}
-use Rattle.verse_names_declarations.specs.Counting.{Counted, counted, counted_of, no_counts}
-use Rattle.verse_names_declarations.specs.Counting.{named_as, named_type_as, named_class_as}
-use Rattle.verse_names_declarations.specs.declared.counting.Counts.{Counts}
-pub use Rattle.verse_names_declarations.specs.Notes.{Note, notes_in, notes, note_of}
-use Rattle.verse_names_declarations.specs.declared.indexing.Index.{Index as MadeIndex}
+use Rattle.verse_names_tables.specs.Names.{Table}
+use Rattle.verse_names_tables.specs.Functions.{Function, fun_function, function_of}
+use Rattle.verse_names_tables.specs.Counting.{Counted, counted, counted_of, no_counts}
+use Rattle.verse_names_tables.specs.Notes.{Note, notes, note_of}
+use Rattle.verse_names_tables.specs.Indexing.{Index, index_all, no_index, outlined, index_of}
 use Rattle.verse_names_declarations.specs.declared.known.Known.{Known as Made}
-
--- what the names of items stand for; of several items of one name the first counts
-pub record Index : Type 0 where
-  pub items : Table
-  pub repeated : Roll
-  -- of the classes and enums, and of the classes alone
-  pub types : Table
-  pub classes : Table
-
-abbrev pub indexed : Counted → Index → Index
-indexed i x = record {
-  items = keep_named (named_as i.item i.before) x.items;
-  repeated = call_named (named_as i.item i.before) x.repeated;
-  types = keep_named (named_type_as i.item i.before) x.types;
-  classes = keep_named (named_class_as i.item i.before) x.classes;
-}
-
-abbrev pub index_all : List Counted → Index → Index
-index_all [] x = x
-index_all (i ∷ is) x = index_all is (indexed i x)
-
-abbrev pub no_index : Index
-no_index = record { items = []; repeated = []; types = []; classes = [] }
-
-abbrev pub class_number : Option Ref → Option ℕ
-class_number None = None
-class_number (Some (ref.Class c)) = Some c
-class_number (Some r) = None
-
-abbrev pub parent_number : Table → Option Bytes → Option ℕ
-parent_number cs None = None
-parent_number cs (Some x) = class_number (look x cs)
-
--- a class with its parent, and without its members
-abbrev pub outlined : Table → Note → Class
-outlined cs n = record {
-  parent = parent_number cs n.item.parent;
-  is_unique = has (codes "unique") n.item.class_specs;
-  fields = [];
-  methods = [];
-}
 
 abbrev pub member_functions : Table → MemberTree → List Function
 member_functions ts (field d) = []
@@ -96,14 +47,6 @@ known_by is x = record {
 
 abbrev pub known : List ItemTree → Known
 known is = known_by (counted no_counts is) (index_all (counted no_counts is) no_index)
-
-abbrev pub index_of : MadeIndex → Index
-index_of x = record {
-  items = table_of x.items;
-  repeated = roll_of x.repeated;
-  types = table_of x.types;
-  classes = table_of x.classes;
-}
 
 abbrev pub known_of : Made → Known
 known_of k = record {

@@ -1,12 +1,4 @@
-pub mod Names
-pub mod Views
-pub mod Words
-pub mod Functions
-pub mod Counting
-pub mod Naming
-pub mod Notes
 pub mod Known
 pub mod Members
 pub mod Lines
-pub mod Shared
 pub mod Descents

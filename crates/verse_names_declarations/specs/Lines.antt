@@ -2,8 +2,8 @@
 use Rattle.std.specs.Prelude.{ℕ, List, [], map}
 use Rattle.verse_tree.specs.Tree.{Bytes}
 use Rattle.verse_tree.specs.ItemTree.{MemberTree, field, method}
-use Rattle.verse_names_declarations.specs.Names.{Roll, call_all}
-use Rattle.verse_names_declarations.specs.Views.{roll_of}
+use Rattle.verse_names_tables.specs.Names.{Roll, call_all}
+use Rattle.verse_names_tables.specs.Views.{roll_of}
 use Rattle.verse_names_declarations.specs.Known.{Known}
 pub use Rattle.verse_names_declarations.specs.Members.{on_class, line, line_of, others, ancestors}
 pub use Rattle.verse_names_declarations.specs.Members.{Members, with_field, with_function}

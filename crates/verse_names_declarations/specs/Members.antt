@@ -7,9 +7,9 @@ use Rattle.verse_tree.specs.declared.tables.Ref.{Ref}
 use Rattle.verse_tree.specs.declared.tables.Ref.TheVariants as ref
 use Rattle.verse_rules_types.specs.Types.{Class}
 use Rattle.verse_rules_types.specs.Fitting.{parent_of}
-use Rattle.verse_names_declarations.specs.Names.{Table, look, place, keep, put}
-use Rattle.verse_names_declarations.specs.Counting.{fun_after}
-use Rattle.verse_names_declarations.specs.Notes.{Note}
+use Rattle.verse_names_tables.specs.Names.{Table, look, place, keep, put}
+use Rattle.verse_names_tables.specs.Counting.{fun_after}
+use Rattle.verse_names_tables.specs.Notes.{Note}
 use Rattle.verse_names_declarations.specs.declared.members.Members.{Members as Made}
 
 abbrev pub on_class : Option ℕ → (ℕ → List ℕ) → List ℕ

@@ -3,14 +3,14 @@
 ghost use Rattle.std.specs.Prelude.{◌≡◌, map, IfOk, IfSome, None, Some};
 ghost use Rattle.verse_rules_types.specs.Types.{classes_of};
 ghost use Rattle.verse_rules_types.specs.Fitting.{parent_of};
-ghost use Rattle.verse_names_declarations.specs.Notes.{note_of};
+ghost use Rattle.verse_names_tables.specs.Notes.{note_of};
 ghost use Rattle.verse_names_declarations.specs.Members.{members_view, no_members};
 ghost use Rattle.verse_names_declarations.specs.Descents.{Tells, TellsAbove};
 
-use crate::indexing::Note;
 use crate::members::Members;
 use std::alloc::Global;
 use verse_base::refusals::Memory;
+use verse_names_tables::indexing::Note;
 use verse_tree::tables::ClassInfo;
 
 /// Members of a class, and how many classes stand above it.

@@ -2,21 +2,21 @@
 
 ghost use Rattle.std.specs.Prelude.{◌≡◌, ◌++◌, map, IfOk, OnOk};
 ghost use Rattle.verse_tree.specs.ItemView.{item_of, member_of};
-ghost use Rattle.verse_names_declarations.specs.Views.{table_of};
-ghost use Rattle.verse_names_declarations.specs.Functions.{function_of};
-ghost use Rattle.verse_names_declarations.specs.Counting.{counted_of};
+ghost use Rattle.verse_names_tables.specs.Views.{table_of};
+ghost use Rattle.verse_names_tables.specs.Functions.{function_of};
+ghost use Rattle.verse_names_tables.specs.Counting.{counted_of};
 ghost use Rattle.verse_names_declarations.specs.Known.{member_functions, members_functions};
 ghost use Rattle.verse_names_declarations.specs.Known.{item_functions};
 ghost use Rattle.verse_names_declarations.specs.Known.{functions, known, known_of};
 
-use crate::counting::{Counted, count_items};
-use crate::dictionaries::Dict;
-use crate::functions::function;
-use crate::indexing::{Index, index_items, note_classes, outline};
 use crate::lineage::{Lineage, trace};
 use sqlite_items::Items;
 use std::alloc::Global;
 use verse_base::refusals::Memory;
+use verse_names_tables::counting::{Counted, count_items};
+use verse_names_tables::dictionaries::Dict;
+use verse_names_tables::functions::function;
+use verse_names_tables::indexing::{Index, index_items, note_classes, outline};
 use verse_tree::items::{Item, Member};
 use verse_tree::tables::FunInfo;
 

@@ -1,18 +1,11 @@
 //! What the items of a program define, before rules and bodies are looked at.
 //!
-//! To be read in this order: `dictionaries`, tables of names; `words`, specifiers and built-in
-//! names; `functions`, the types that are spelled; `counting`, the numbers of functions, classes
-//! and enums; `indexing`, what the names of items stand for; `known`, all of this together;
-//! `members`, classes with their ancestors.
+//! To be read in this order: `members`, the members that a class has from its ancestors;
+//! `descents`, those of a class made of those of its parent; `lineage`, those of all classes, made
+//! once; `known`, all that is known of the items.
 #![tactic(auto)]
 
-pub mod counting;
 pub mod descents;
-pub mod dictionaries;
-pub mod functions;
-pub mod indexing;
 pub mod known;
 pub mod lineage;
 pub mod members;
-pub mod shared_names;
-pub mod words;

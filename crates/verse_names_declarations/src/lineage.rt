@@ -3,19 +3,19 @@
 ghost use Rattle.std.specs.Prelude.{◌≡◌, map, slice_get, IfOk, OnOk, IfSome};
 ghost use Rattle.std.specs.Option.{option_copied};
 ghost use Rattle.verse_rules_types.specs.Types.{classes_of};
-ghost use Rattle.verse_names_declarations.specs.Notes.{note_of};
+ghost use Rattle.verse_names_tables.specs.Notes.{note_of};
 ghost use Rattle.verse_names_declarations.specs.Members.{members_view, no_members};
 ghost use Rattle.verse_names_declarations.specs.Descents.{Tells, TellsAbove, AreTraced, entry_in};
 
-use crate::counting::next;
 use crate::descents::{Descent, below, root, with_own};
-use crate::dictionaries::Calls;
-use crate::indexing::Note;
 use crate::members::{Members, name_of};
 use sqlite_items::Items;
 use std::alloc::Global;
 use std::rc::Rc;
 use verse_base::refusals::Memory;
+use verse_names_tables::counting::next;
+use verse_names_tables::dictionaries::Calls;
+use verse_names_tables::indexing::Note;
 use verse_rules_types::classes::parent;
 use verse_tree::items::Member;
 use verse_tree::tables::ClassInfo;

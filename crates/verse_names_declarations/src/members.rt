@@ -3,9 +3,10 @@
 ghost use Rattle.std.specs.Prelude.{◌≡◌, ◌++◌, ◌∷◌, [], map, IfOk, OnOk, slice_get};
 ghost use Rattle.verse_tree.specs.ItemView.{member_of};
 ghost use Rattle.verse_rules_types.specs.Types.{classes_of};
-ghost use Rattle.verse_names_declarations.specs.Views.{roll_of};
-ghost use Rattle.verse_names_declarations.specs.Names.{call_all, look, place, meanings};
-ghost use Rattle.verse_names_declarations.specs.Known.{note_of, known_of};
+ghost use Rattle.verse_names_tables.specs.Views.{roll_of};
+ghost use Rattle.verse_names_tables.specs.Names.{call_all, look, place, meanings};
+ghost use Rattle.verse_names_tables.specs.Notes.{note_of};
+ghost use Rattle.verse_names_declarations.specs.Known.{known_of};
 ghost use Rattle.verse_names_declarations.specs.Lines as lines;
 ghost use Rattle.verse_names_declarations.specs.Lines.{others, with_member, with_members};
 ghost use Rattle.verse_names_declarations.specs.Lines.{with_note, with_function, as_of, bare};
@@ -15,17 +16,17 @@ ghost use Rattle.verse_names_declarations.specs.Lines.{members_of, no_members, a
 ghost use Rattle.verse_names_declarations.specs.Lines.{member_name};
 ghost use Rattle.verse_names_declarations.specs.Lines.{members_view, home_of};
 
-use crate::counting::{fun_after, next};
-use crate::dictionaries::Calls;
-use crate::indexing::Note;
 use crate::known::Known;
-use crate::shared_names::SharedNames;
 use shared_list::SharedList;
 use sqlite_items::Items;
 use std::alloc::Global;
 use std::mem::replace;
 use std::rc::Rc;
 use verse_base::refusals::Memory;
+use verse_names_tables::counting::{fun_after, next};
+use verse_names_tables::dictionaries::Calls;
+use verse_names_tables::indexing::Note;
+use verse_names_tables::shared_names::SharedNames;
 use verse_rules_types::classes::parent;
 use verse_tree::items::Member;
 use verse_tree::tables::{ClassInfo, Ref};

@@ -2,8 +2,8 @@
 use Rattle.std.proofs.Common.{◌≡◌, ℕ, List, [], ◌∷◌, ◌++◌, refl, ap, sym, ◌∙◌, append_assoc}
 use Rattle.std.specs.Prelude.{slice_get}
 use Rattle.verse_rules_types.specs.Types.{Field}
-use Rattle.verse_names_declarations.specs.Names.{Table}
-use Rattle.verse_names_declarations.specs.Known.{Note}
+use Rattle.verse_names_tables.specs.Names.{Table}
+use Rattle.verse_names_tables.specs.Notes.{Note}
 use Rattle.verse_names_items.specs.Tables.{fields_of, own_fields, note_members}
 
 field_nil : (fs : List Field) → fs ++ [] ≡ fs

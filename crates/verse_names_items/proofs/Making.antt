@@ -12,7 +12,7 @@ use Rattle.verse_names_declarations.specs.Known.{Known}
 use Rattle.verse_names_declarations.specs.Lines.{line, line_of, on_class}
 use Rattle.verse_names_declarations.specs.Descents.{Tells}
 use Rattle.verse_names_declarations.specs.declared.descents.Descent.{Descent}
-use Rattle.verse_names_declarations.proofs.Sharing.{get_set, get_other}
+use Rattle.verse_names_tables.proofs.Sharing.{get_set, get_other}
 use Rattle.verse_names_declarations.proofs.Descending.{not_same}
 use Rattle.verse_names_items.specs.Tables.{fields_of, own_fields, note_members, class_fields}
 use Rattle.verse_names_items.specs.Making.{FieldsTold, FieldsAbove, AreMade}

@@ -19,8 +19,8 @@ use Rattle.verse_rules_least.specs.Least.{InOrder, Placed}
 use Rattle.verse_rules_least.specs.declared.faults.Fault.{Fault}
 use Rattle.verse_rules_least.proofs.Ordered.{in_order}
 use Rattle.verse_rules_least.proofs.Refusals.{stands_there}
-use Rattle.verse_names_declarations.specs.Counting.{counted, counts_after, fun_after, no_counts}
-use Rattle.verse_names_declarations.specs.declared.counting.Counts.{Counts}
+use Rattle.verse_names_tables.specs.Counting.{counted, counts_after, fun_after, no_counts}
+use Rattle.verse_names_tables.specs.declared.counting.Counts.{Counts}
 use Rattle.verse_names_declarations.specs.Known.{Known, known}
 use Rattle.verse_names_declarations.specs.Lines.{Home, home}
 use Rattle.verse_names_items.specs.Nodes.{Declared, number_of, place_of, quiet_node, written_declared, writtens_declared, param_declared}

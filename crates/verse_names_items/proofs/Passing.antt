@@ -9,8 +9,8 @@ use Rattle.verse_tree.specs.PostOrder.{Node, post_order, default_order, items_or
 use Rattle.verse_rules_least.specs.Least.{first, each, InOrder, Told, Placed, Finds, first_true}
 use Rattle.verse_rules_least.specs.declared.faults.Fault.{Fault}
 use Rattle.verse_rules_least.proofs.Least.{first_finds, least_kept, placed_kept}
-use Rattle.verse_names_declarations.specs.Counting.{Counted, fun_after}
-use Rattle.verse_names_declarations.specs.declared.counting.Counts.{Counts}
+use Rattle.verse_names_tables.specs.Counting.{Counted, fun_after}
+use Rattle.verse_names_tables.specs.declared.counting.Counts.{Counts}
 use Rattle.verse_names_declarations.specs.Known.{Known}
 use Rattle.verse_names_declarations.specs.Lines.{Home, home}
 use Rattle.verse_names_items.specs.Rules.{rules_at, quiet, field, method, class, function, program}

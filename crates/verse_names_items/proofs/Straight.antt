@@ -5,7 +5,7 @@ use Rattle.verse_rules_types.specs.Types.{Class}
 use Rattle.verse_rules_types.specs.Fitting.{parent_of}
 use Rattle.verse_rules_types.specs.Depths.{Ends, top, up}
 use Rattle.verse_rules_types.proofs.Levels.{too_low, high_ends}
-use Rattle.verse_names_declarations.specs.Notes.{Note}
+use Rattle.verse_names_tables.specs.Notes.{Note}
 use Rattle.verse_names_declarations.specs.Descents.{Tells}
 use Rattle.verse_names_declarations.specs.declared.descents.Descent.{Descent}
 use Rattle.verse_names_items.specs.Rules.{leads_to}

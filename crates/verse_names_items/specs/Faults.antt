@@ -9,8 +9,8 @@ use Rattle.verse_tree.specs.ItemTree as i
 use Rattle.verse_tree.specs.PostOrder.{program_place}
 use Rattle.verse_rules_least.specs.Least.{first, fault_at, first_true}
 use Rattle.verse_rules_least.specs.declared.faults.Fault.{Fault}
-use Rattle.verse_names_declarations.specs.Counting.{Counted, fun_after}
-use Rattle.verse_names_declarations.specs.declared.counting.Counts.{Counts}
+use Rattle.verse_names_tables.specs.Counting.{Counted, fun_after}
+use Rattle.verse_names_tables.specs.declared.counting.Counts.{Counts}
 use Rattle.verse_names_declarations.specs.Known.{Known}
 use Rattle.verse_names_declarations.specs.Lines.{Home, home}
 use Rattle.verse_names_items.specs.Rules.{Subject, type_name, field, method, enumeration, class}

@@ -13,8 +13,8 @@ use Rattle.verse_tree.specs.Numbering.{items_numbered, program_nodes}
 use Rattle.verse_rules_least.specs.Least.{first, fault_at, first_true, Holds, Broken}
 use Rattle.verse_rules_least.specs.Refusals.{place_at, IsRefusedFor}
 use Rattle.verse_rules_least.specs.declared.faults.Fault.{Fault}
-use Rattle.verse_names_declarations.specs.Counting.{Counted, fun_after}
-use Rattle.verse_names_declarations.specs.declared.counting.Counts.{Counts}
+use Rattle.verse_names_tables.specs.Counting.{Counted, fun_after}
+use Rattle.verse_names_tables.specs.declared.counting.Counts.{Counts}
 use Rattle.verse_names_declarations.specs.Known.{Known, known}
 use Rattle.verse_names_declarations.specs.Lines.{Home, home}
 use Rattle.verse_names_items.specs.Rules.{Subject, quiet, type_name, field, method, enumeration}

@@ -13,9 +13,9 @@ use Rattle.verse_tree.specs.declared.tables.Ref.TheVariants as ref
 use Rattle.verse_tree.specs.declared.tables.Effects.{Effects}
 use Rattle.verse_rules_types.specs.Types.{Ty, int, void, array, tys, Class}
 use Rattle.verse_rules_types.specs.Fitting.{parent_of, inherits, all_same, fits}
-use Rattle.verse_names_declarations.specs.Names.{look, is_repeated, any_again}
-use Rattle.verse_names_declarations.specs.Words.{has, builtins}
-use Rattle.verse_names_declarations.specs.Functions.{Function}
+use Rattle.verse_names_tables.specs.Names.{look, is_repeated, any_again}
+use Rattle.verse_names_tables.specs.Words.{has, builtins}
+use Rattle.verse_names_tables.specs.Functions.{Function}
 use Rattle.verse_names_declarations.specs.Known.{Known}
 use Rattle.verse_names_declarations.specs.Lines.{Home}
 

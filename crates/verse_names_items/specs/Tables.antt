@@ -6,9 +6,10 @@ use Rattle.verse_tree.specs.ItemTree.{EnumTree, FieldTree, MemberTree, field, me
 use Rattle.verse_tree.specs.ItemTree.{using, enumeration, class, function}
 use Rattle.verse_tree.specs.declared.tables.EnumInfo.{EnumInfo}
 use Rattle.verse_rules_types.specs.Types.{Field, Class, classes_of}
-use Rattle.verse_names_declarations.specs.Names.{Table, meanings}
-use Rattle.verse_names_declarations.specs.Functions.{Function, function_of, spelled}
-use Rattle.verse_names_declarations.specs.Known.{Note, Known, known}
+use Rattle.verse_names_tables.specs.Names.{Table, meanings}
+use Rattle.verse_names_tables.specs.Functions.{Function, function_of, spelled}
+use Rattle.verse_names_tables.specs.Notes.{Note}
+use Rattle.verse_names_declarations.specs.Known.{Known, known}
 use Rattle.verse_names_declarations.specs.Lines.{line_of, all_members}
 pub use Rattle.verse_names_declarations.specs.Lines.{fun_number, fun_numbers}
 use Rattle.verse_names_items.specs.declared.tables.Tables.{Tables as Made}

@@ -5,9 +5,9 @@ ghost use Rattle.verse_tree.specs.ItemView.{spec_of, field_of, fun_of, enum_of, 
 ghost use Rattle.verse_rules_types.specs.Types.{ty_of, tys};
 ghost use Rattle.verse_rules_types.specs.Fitting as fitting;
 ghost use Rattle.verse_rules_least.specs.Least.{first_true};
-ghost use Rattle.verse_names_declarations.specs.Names as names;
-ghost use Rattle.verse_names_declarations.specs.Words as words;
-ghost use Rattle.verse_names_declarations.specs.Functions.{function_of};
+ghost use Rattle.verse_names_tables.specs.Names as names;
+ghost use Rattle.verse_names_tables.specs.Words as words;
+ghost use Rattle.verse_names_tables.specs.Functions.{function_of};
 ghost use Rattle.verse_names_declarations.specs.Known.{known_of};
 ghost use Rattle.verse_names_declarations.specs.Lines.{home_of};
 ghost use Rattle.verse_names_items.specs.Rules as rules;
@@ -18,10 +18,10 @@ use verse_base::refusals::Memory;
 use verse_base::rules::{
     CIRCULAR, MISSHAPEN_MAIN, NAME_DEFINED, NAME_UNKNOWN, NO_MAIN, OVERRIDE_MISFITS,
 };
-use verse_names_declarations::dictionaries::Calls;
 use verse_names_declarations::known::Known;
 use verse_names_declarations::members::Home;
-use verse_names_declarations::words::{builtin, has};
+use verse_names_tables::dictionaries::Calls;
+use verse_names_tables::words::{builtin, has};
 use verse_rules_types::classes::{does_inherit, parent};
 use verse_rules_types::fitting::{does_fit, is_same};
 use verse_tree::items::{ClassItem, EnumItem, Field, Fun, Item, Spec};

@@ -3,7 +3,7 @@ use Rattle.std.proofs.Common.{◌≡◌, Bool, true, false, bytes_eq, [], ◌∷
 use Rattle.std.specs.Prelude.{Some, None}
 use Rattle.verse_tree.specs.Tree.{Bytes}
 use Rattle.verse_tree.specs.declared.tables.Ref.{Ref}
-use Rattle.verse_names_declarations.specs.Names.{Table, look, put}
+use Rattle.verse_names_tables.specs.Names.{Table, look, put}
 use Rattle.verse_names_scopes.specs.Visible.{World, visible, visible_throughout, either, with_name, with_local}
 use Rattle.verse_names_scopes.specs.Subjects.{Subject, quiet, type_name, this, used, instance, defined, both_defined, locals_behind}
 

@@ -19,8 +19,8 @@ use Rattle.verse_tree.specs.declared.tables.Ref.{Ref}
 use Rattle.verse_tree.specs.declared.tables.Ref.TheVariants as ref
 use Rattle.verse_rules_least.specs.Least.{each}
 use Rattle.verse_rules_least.specs.declared.faults.Fault.{Fault}
-use Rattle.verse_names_declarations.specs.Counting.{counted, counts_after, no_counts}
-use Rattle.verse_names_declarations.specs.declared.counting.Counts.{Counts}
+use Rattle.verse_names_tables.specs.Counting.{counted, counts_after, no_counts}
+use Rattle.verse_names_tables.specs.declared.counting.Counts.{Counts}
 use Rattle.verse_names_declarations.specs.Known.{Known, known}
 use Rattle.verse_names_scopes.specs.Visible.{World, inside, outside}
 use Rattle.verse_names_scopes.specs.Subjects.{Subject, quiet, defined, subject, refers, locals_behind, rules_at}

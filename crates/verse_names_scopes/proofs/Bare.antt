@@ -5,7 +5,7 @@ use Rattle.std.proofs.lemmas.Slice.Eq.{bytes_eq-Decides}
 use Rattle.verse_tree.specs.Tree.{Bytes}
 use Rattle.verse_tree.specs.declared.tables.Ref.{Ref}
 use Rattle.verse_tree.specs.declared.tables.Ref.TheVariants as ref
-use Rattle.verse_names_declarations.specs.Names.{Table, look, place, one_further, put, put_absent, keep, names}
+use Rattle.verse_names_tables.specs.Names.{Table, look, place, one_further, put, put_absent, keep, names}
 use Rattle.verse_names_declarations.specs.Members.{Members, or_method, bare}
 use Rattle.verse_names_scopes.specs.Visible.{with_methods, bare_table}
 

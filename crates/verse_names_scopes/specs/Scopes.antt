@@ -16,8 +16,8 @@ use Rattle.verse_tree.specs.PostOrder.{items_order, program_place}
 use Rattle.verse_tree.specs.declared.exprs.Operator.{Operator}
 use Rattle.verse_tree.specs.declared.exprs.Operator.TheVariants as o
 use Rattle.verse_tree.specs.declared.tables.Ref.TheVariants as ref
-use Rattle.verse_names_declarations.specs.Counting.{Counted}
-use Rattle.verse_names_declarations.specs.declared.counting.Counts.{Counts}
+use Rattle.verse_names_tables.specs.Counting.{Counted}
+use Rattle.verse_names_tables.specs.declared.counting.Counts.{Counts}
 use Rattle.verse_names_declarations.specs.Known.{Known, known}
 use Rattle.verse_names_scopes.specs.Visible.{World, inside, outside}
 use Rattle.verse_names_scopes.specs.Subjects.{Subject, quiet, type_name, defined, subject}

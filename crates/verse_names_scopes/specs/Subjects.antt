@@ -6,7 +6,7 @@ use Rattle.verse_tree.specs.Tree.{Bytes, Shape, Givens, no_givens, more_givens}
 use Rattle.verse_tree.specs.Tree as t
 use Rattle.verse_tree.specs.declared.tables.Ref.{Ref}
 use Rattle.verse_tree.specs.declared.tables.Ref.TheVariants as ref
-use Rattle.verse_names_declarations.specs.Names.{Table, look, any_again}
+use Rattle.verse_names_tables.specs.Names.{Table, look, any_again}
 use Rattle.verse_names_scopes.specs.Visible.{World, visible, with_local}
 
 pub data Subject : Type 0 where

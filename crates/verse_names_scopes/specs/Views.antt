@@ -1,8 +1,8 @@
 -- What values of the code stand for.
 use Rattle.std.specs.Prelude.{[], Option, Some, None}
 use denote.Ref.{Bor}
-use Rattle.verse_names_declarations.specs.Names.{Table}
-use Rattle.verse_names_declarations.specs.Views.{table_of}
+use Rattle.verse_names_tables.specs.Names.{Table}
+use Rattle.verse_names_tables.specs.Views.{table_of}
 use Rattle.verse_names_declarations.specs.Lines.{members_view}
 use Rattle.verse_names_declarations.specs.declared.members.Members.{Members}
 use Rattle.verse_names_scopes.specs.Visible as v

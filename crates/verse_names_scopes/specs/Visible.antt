@@ -3,8 +3,8 @@ use Rattle.std.specs.Prelude.{ℕ, ◌+◌, List, [], ◌∷◌, ◌++◌, Optio
 use Rattle.verse_tree.specs.Tree.{Bytes}
 use Rattle.verse_tree.specs.declared.tables.Ref.{Ref}
 use Rattle.verse_tree.specs.declared.tables.Ref.TheVariants as ref
-use Rattle.verse_names_declarations.specs.Names.{Table, look, keep, names}
-use Rattle.verse_names_declarations.specs.Words.{builtins}
+use Rattle.verse_names_tables.specs.Names.{Table, look, keep, names}
+use Rattle.verse_names_tables.specs.Words.{builtins}
 use Rattle.verse_names_declarations.specs.Known.{Known}
 use Rattle.verse_names_declarations.specs.Lines.{Members, all_members}
 

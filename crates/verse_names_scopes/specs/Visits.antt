@@ -9,7 +9,7 @@ use Rattle.verse_tree.specs.declared.tables.Ref.{Ref}
 use Rattle.verse_rules_least.specs.Least.{first, fault_at, first_true, Holds, Broken}
 use Rattle.verse_rules_least.specs.declared.faults.Fault.{Fault}
 use Rattle.verse_rules_least.specs.Refusals.{place_at}
-use Rattle.verse_names_declarations.specs.Names.{Table}
+use Rattle.verse_names_tables.specs.Names.{Table}
 use Rattle.verse_names_scopes.specs.Visible.{World}
 use Rattle.verse_names_scopes.specs.Subjects.{Subject, refers, locals_behind, rules_at}
 use Rattle.verse_names_scopes.specs.Scopes.{through_program}

@@ -14,7 +14,6 @@ ghost use Rattle.note_stretches.specs.Noted.{noted, walked};
 ghost use Rattle.verse_note.specs.Making.{default_note, note_of, notes_from, all_notes};
 ghost use Rattle.verse_note.specs.Making.{entry_of, body_walk, bodies_walk};
 
-use crate::trees::note_tree;
 use lower_code::arounds::{Around, next};
 use lower_expr::scopes::{Scopes, Slot};
 use lower_items::bodies::Body;
@@ -25,6 +24,7 @@ use note_sorts::kinds::{self, Kind};
 use note_states::standing::Standing;
 use note_states::states::State;
 use note_stretches::noting::Noting;
+use note_trees::trees::note_tree;
 use std::alloc::Global;
 use verse_base::limits::MOST_OPERATIONS;
 use verse_base::refusals::Memory;

@@ -12,7 +12,7 @@ use Rattle.verse_tree.specs.declared.tables.EnumInfo.{EnumInfo}
 use Rattle.verse_tree.specs.declared.tables.Ref.{Ref}
 use Rattle.verse_rules_types.specs.Types.{Ty, tys, ty_step, two_tys, ty_of, map_of, field_of}
 use Rattle.verse_rules_types.specs.Types.{class_of}
-use Rattle.verse_names_declarations.specs.Functions.{function_of}
+use Rattle.verse_names_tables.specs.Functions.{function_of}
 use Rattle.verse_names_items.specs.Tables.{Tables, tables, tables_of}
 use Rattle.verse_names_items.specs.declared.tables.Tables.{Tables as MadeTables}
 use Rattle.verse_names_scopes.specs.Visits.{ref_of, program_visits}

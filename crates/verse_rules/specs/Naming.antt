@@ -6,7 +6,7 @@ use Rattle.verse_tree.specs.declared.tables.FunInfo.{FunInfo}
 use Rattle.verse_tree.specs.declared.tables.FieldInfo.{FieldInfo}
 use Rattle.verse_tree.specs.declared.tables.ClassInfo.{ClassInfo}
 use Rattle.verse_rules_types.specs.Types.{Field, Class}
-use Rattle.verse_names_declarations.specs.Functions.{Function}
+use Rattle.verse_names_tables.specs.Functions.{Function}
 use Rattle.verse_names_items.specs.Tables.{tables}
 use Rattle.verse_names_scopes.specs.Visits.{ref_of, program_visits}
 use Rattle.verse_rules.specs.Made.{made}

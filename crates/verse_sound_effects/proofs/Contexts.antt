@@ -4,7 +4,7 @@ use Rattle.verse_tree.specs.Tree.{Tree, tree, Shape, Trees, more_trees}
 use Rattle.verse_tree.specs.Tree as trees
 use Rattle.verse_tree.specs.declared.exprs.Operator.TheVariants as op
 use Rattle.verse_value.specs.Val.{Val, unit}
-use Rattle.verse_names_declarations.specs.Names.{Table}
+use Rattle.verse_names_tables.specs.Names.{Table}
 use Rattle.verse_sorts.specs.Sorts.{Sort}
 use Rattle.verse_sorts.specs.Typing.{Typing}
 use Rattle.verse_sorts.proofs.Fitting.{grows_itself}

@@ -8,7 +8,7 @@ use Rattle.verse_tree.specs.Tree as trees
 use Rattle.verse_tree.specs.declared.exprs.Operator.TheVariants as op
 use Rattle.verse_value.specs.Val.{Val, unit}
 use Rattle.verse_meaning_state.specs.State.{State}
-use Rattle.verse_names_declarations.specs.Names.{Table}
+use Rattle.verse_names_tables.specs.Names.{Table}
 use Rattle.verse_sorts.specs.Typing.{Typing}
 use Rattle.verse_meaning.specs.Programs.{Program}
 use Rattle.verse_meaning.specs.Residuals.{Env}

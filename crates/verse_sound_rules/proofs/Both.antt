@@ -2,7 +2,7 @@
 use Rattle.std.proofs.Common.{Bool, [], ◌∷◌}
 use Rattle.verse_base.specs.declared.places.Place.{Place}
 use Rattle.verse_tree.specs.declared.exprs.Operator.TheVariants as op
-use Rattle.verse_names_declarations.specs.Names.{Table}
+use Rattle.verse_names_tables.specs.Names.{Table}
 use Rattle.verse_sorts.specs.Sorts.{Sort, Fits}
 use Rattle.verse_sorts.proofs.Fitting.{all_itself}
 use Rattle.verse_meaning.specs.Programs.{Program}

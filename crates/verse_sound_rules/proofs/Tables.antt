@@ -3,8 +3,8 @@ use Rattle.std.specs.Str.{bytes_eq}
 use Rattle.std.proofs.Common.{◌≡◌, Bool, true, false, cond, Option, Some, None, refl, [], ◌∷◌, ◌++◌, ap}
 use Rattle.verse_tree.specs.declared.tables.Ref.{Ref}
 use Rattle.verse_tree.specs.Tree.{Bytes}
-use Rattle.verse_names_declarations.specs.Names as names
-use Rattle.verse_names_declarations.specs.Names.{Table}
+use Rattle.verse_names_tables.specs.Names as names
+use Rattle.verse_names_tables.specs.Names.{Table}
 use Rattle.verse_meaning.proofs.Names.{test_itself}
 
 pub absent_test : (q : Bool) (r : Ref) (o : Option Ref) → cond q (Some r) o ≡ None → (q ≡ false) × (o ≡ None)

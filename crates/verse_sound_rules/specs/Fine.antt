@@ -9,7 +9,7 @@ use Rattle.verse_tree.specs.declared.exprs.Operator.TheVariants as op
 use Rattle.verse_tree.specs.declared.tables.Ref.TheVariants as ref
 use Rattle.verse_value.specs.Val.{Val, enum}
 use Rattle.verse_value.specs.declared.modes.Mode.{Mode}
-use Rattle.verse_names_declarations.specs.Names.{Table}
+use Rattle.verse_names_tables.specs.Names.{Table}
 use Rattle.verse_sorts.specs.Sorts as s
 use Rattle.verse_sorts.specs.Sorts.{Sort, Fits, IsKey}
 use Rattle.verse_meaning.specs.Programs.{Program, ref_at, pieces, given_names}

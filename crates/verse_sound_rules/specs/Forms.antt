@@ -11,7 +11,7 @@ use Rattle.verse_tree.specs.declared.exprs.Operator.TheVariants as op
 use Rattle.verse_tree.specs.declared.tables.Ref.{Ref}
 use Rattle.verse_tree.specs.declared.tables.Ref.TheVariants as ref
 use Rattle.verse_value.specs.declared.modes.Mode.{Mode}
-use Rattle.verse_names_declarations.specs.Names.{Table, look}
+use Rattle.verse_names_tables.specs.Names.{Table, look}
 use Rattle.verse_sorts.specs.Sorts as s
 use Rattle.verse_sorts.specs.Sorts.{Sort, Sorts, Fits, IsKey}
 use Rattle.verse_sorts.specs.Typing.{at, AllFit}

@@ -1,7 +1,7 @@
 -- What the checker has found of a program, as sorts; and what stands round a node.
 use Rattle.std.specs.Prelude.{◌≡◌, ℕ, Bool, true, false, List, Option, Some, None}
 use Rattle.verse_tree.specs.Tree.{Bytes}
-use Rattle.verse_names_declarations.specs.Names.{Table, look}
+use Rattle.verse_names_tables.specs.Names.{Table, look}
 use Rattle.verse_meaning.specs.Programs.{same_name}
 use Rattle.verse_meaning.specs.Forms.{this_name}
 use Rattle.verse_sorts.specs.Sorts.{Sort, IsKnown}

@@ -9,7 +9,7 @@ use Rattle.verse_value.specs.Val as v
 use Rattle.verse_value.specs.Val.{Val}
 use Rattle.verse_meaning_state.specs.State.{Given, with_entry}
 use Rattle.verse_meaning_state.specs.Waits.{nth, given_by}
-use Rattle.verse_names_declarations.specs.Names.{Table}
+use Rattle.verse_names_tables.specs.Names.{Table}
 use Rattle.verse_sorts.specs.Sorts as s
 use Rattle.verse_sorts.specs.Sorts.{Sort, Fits}
 use Rattle.verse_sorts.specs.Typing.{at, Typing, Grows, Adds, Is, Are, are_no, are_so, is_task}

@@ -8,7 +8,7 @@ use Rattle.verse_value.specs.Val.{vals}
 use Rattle.verse_value.specs.declared.runs.Ending.TheVariants as ending
 use Rattle.verse_meaning_state.specs.State.{State, begun, stepped}
 use Rattle.verse_meaning_state.specs.Turns.{Stage, turns, run_of}
-use Rattle.verse_names_declarations.specs.Names.{Table}
+use Rattle.verse_names_tables.specs.Names.{Table}
 use Rattle.verse_sorts.specs.Sorts as s
 use Rattle.verse_sorts.specs.Sorts.{Sort}
 use Rattle.verse_sorts.specs.Typing.{Typing, AreAll, Are, are_no, are_so, no_all, more_all, is_int, is_list}

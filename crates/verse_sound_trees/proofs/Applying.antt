@@ -12,7 +12,7 @@ use Rattle.verse_value.specs.Val.{Val}
 use Rattle.verse_value.specs.Answer.{Answer}
 use Rattle.verse_value.specs.declared.modes.Mode.{Mode}
 use Rattle.verse_meaning_state.specs.Effects.{line_printed, text_printed, line_told}
-use Rattle.verse_names_declarations.specs.Names.{Table}
+use Rattle.verse_names_tables.specs.Names.{Table}
 use Rattle.verse_sorts.specs.Sorts as s
 use Rattle.verse_sorts.specs.Sorts.{Sort, fits_obj, fits_task}
 use Rattle.verse_sorts.specs.Typing.{Typing, Is, Are, are_no, are_so, is_list, is_unit}

@@ -3,7 +3,7 @@ use Rattle.std.proofs.Common.{◌≡◌, ℕ, Bool, true, false, Option, Some, r
 use Rattle.verse_tree.specs.Tree.{Trees}
 use Rattle.verse_value.specs.Val as v
 use Rattle.verse_value.specs.Val.{Val}
-use Rattle.verse_names_declarations.specs.Names.{Table}
+use Rattle.verse_names_tables.specs.Names.{Table}
 use Rattle.verse_sorts.specs.Sorts as s
 use Rattle.verse_sorts.specs.Sorts.{Sort, Fits}
 use Rattle.verse_sorts.specs.Typing.{Typing, Grows, Adds, Is, is_var, is_unit}

@@ -12,7 +12,7 @@ use Rattle.verse_value.specs.Operations.{text_val}
 use Rattle.verse_meaning_state.specs.State.{State}
 use Rattle.verse_meaning_state.specs.Waits.{Cause, never, after}
 use Rattle.verse_meaning_state.specs.Turns.{sync, race, rush}
-use Rattle.verse_names_declarations.specs.Names.{Table}
+use Rattle.verse_names_tables.specs.Names.{Table}
 use Rattle.verse_sorts.specs.Sorts as s
 use Rattle.verse_sorts.specs.Sorts.{Sort, Fits}
 use Rattle.verse_sorts.specs.Typing as ty

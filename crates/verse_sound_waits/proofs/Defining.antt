@@ -1,7 +1,7 @@
 -- A statement has given its value: its name is seen behind it.
 use Rattle.std.proofs.Common.{ℕ, Option, Some, sym, subst}
 use Rattle.verse_value.specs.Val.{Val}
-use Rattle.verse_names_declarations.specs.Names.{Table}
+use Rattle.verse_names_tables.specs.Names.{Table}
 use Rattle.verse_sorts.specs.Sorts as s
 use Rattle.verse_sorts.specs.Sorts.{Sort}
 use Rattle.verse_sorts.specs.Typing.{Typing, Grows, Is, is_var}

@@ -7,7 +7,7 @@ use Rattle.verse_tree.specs.Tree.{Bytes, Tree}
 use Rattle.verse_tree.specs.ItemTree.{FieldTree, FunTree}
 use Rattle.verse_value.specs.Val.{Val}
 use Rattle.verse_value.specs.declared.modes.Mode.{Mode}
-use Rattle.verse_names_declarations.specs.Names.{Table}
+use Rattle.verse_names_tables.specs.Names.{Table}
 use Rattle.verse_sorts.specs.Sorts as s
 use Rattle.verse_sorts.specs.Sorts.{Sort, fits_obj}
 use Rattle.verse_sorts.specs.Typing.{Typing, Grows, Is, Are, AllFit, fit_so, are_no, are_so}

@@ -6,7 +6,7 @@ use Rattle.verse_tree.specs.declared.tables.Ref.{Ref}
 use Rattle.verse_tree.specs.declared.tables.Ref.TheVariants as ref
 use Rattle.verse_value.specs.Val as v
 use Rattle.verse_value.specs.Val.{Val}
-use Rattle.verse_names_declarations.specs.Names.{Table}
+use Rattle.verse_names_tables.specs.Names.{Table}
 use Rattle.verse_sorts.specs.Sorts as s
 use Rattle.verse_sorts.specs.Sorts.{Sort, Fits}
 use Rattle.verse_sorts.specs.Typing.{Typing, Grows, Is, is_unit}

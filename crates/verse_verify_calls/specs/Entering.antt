@@ -6,8 +6,8 @@ use Rattle.verse_verify_kept.specs.Notes.{FuncNote}
 use Rattle.verse_verify_faults.specs.Fitting.{each_fit}
 use Rattle.verse_verify_faults.specs.Stepping as t
 use Rattle.verse_verify_faults.specs.Stepping.{Stepped, leads, need, goes_on, to}
-use Rattle.verse_verify_next.specs.declared.heres.Here.{Here}
-use Rattle.verse_verify_next.specs.Heres.{code_in, table_in, spot_in, classes_in}
+use Rattle.verse_verify_parts.specs.declared.heres.Here.{Here}
+use Rattle.verse_verify_parts.specs.Heres.{code_in, table_in, spot_in, classes_in}
 
 module _ (h : Here) where
   -- pushes what it made

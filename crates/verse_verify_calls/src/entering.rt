@@ -5,17 +5,17 @@ ghost use Rattle.verse_meaning_state.specs.Waits.{eqn};
 ghost use Rattle.verse_verify_faults.specs.Fitting.{each_fit};
 ghost use Rattle.verse_verify_faults.specs.Stepping as t;
 ghost use Rattle.verse_verify_notes.specs.View.{sort_of, sorts_of, func_of};
-ghost use Rattle.verse_verify_next.specs.Heres.{classes_in, operands, rule_by};
-ghost use Rattle.verse_verify_next.specs.Mades.{made_of};
+ghost use Rattle.verse_verify_parts.specs.Heres.{classes_in, operands, rule_by};
+ghost use Rattle.verse_verify_parts.specs.Mades.{made_of};
 ghost use Rattle.verse_verify_calls.specs.Entering as e;
 
 use verse_verify_keeps::settling::settle;
-use verse_verify_next::heres::Here;
 use verse_verify_next::leading::does_lead_to;
-use verse_verify_next::mades::Made;
 use verse_verify_notes::notes::FuncNote;
 use verse_verify_notes::sorts::Sort;
 use verse_verify_operands::asking::is_fit;
+use verse_verify_parts::heres::Here;
+use verse_verify_parts::mades::Made;
 use verse_verify_sorts::fitting::does_each_fit;
 use verse_verify_tables::numbers::is_same_number;
 

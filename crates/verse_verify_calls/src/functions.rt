@@ -4,18 +4,18 @@ ghost use Rattle.std.specs.Prelude.{◌≡◌, [], slice_get};
 ghost use Rattle.std.specs.Option.{option_map};
 ghost use Rattle.verse_code.specs.declared.operations.Op.TheVariants as o;
 ghost use Rattle.verse_verify_notes.specs.View.{func_of};
-ghost use Rattle.verse_verify_next.specs.Heres.{table_in};
+ghost use Rattle.verse_verify_parts.specs.Heres.{table_in};
 ghost use Rattle.verse_verify_operands.specs.Finds.{broken};
 
 use crate::entering::{do_args_fit, enter_rule};
 use verse_verify_keeps::settling::settle;
-use verse_verify_next::heres::Here;
-use verse_verify_next::mades::Made;
-use verse_verify_next::operands::pop;
 use verse_verify_notes::notes::FuncNote;
 use verse_verify_notes::sorts::Sort;
 use verse_verify_operands::asking::is_fit;
 use verse_verify_operands::finding::pop_many;
+use verse_verify_parts::heres::Here;
+use verse_verify_parts::mades::Made;
+use verse_verify_parts::operands::pop;
 
 /// What the notes say of a function.
 fn note_at<'a>(here: &Here<'a>, func: u32) -> Option<&'a FuncNote>

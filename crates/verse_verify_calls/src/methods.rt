@@ -3,18 +3,18 @@
 ghost use Rattle.std.specs.Prelude.{◌≡◌};
 ghost use Rattle.verse_code.specs.declared.operations.Op.TheVariants as o;
 ghost use Rattle.verse_verify_notes.specs.View.{sort_of, sorts_of, func_of};
-ghost use Rattle.verse_verify_next.specs.Heres.{operands, rule_by};
-ghost use Rattle.verse_verify_next.specs.Mades.{made_of};
+ghost use Rattle.verse_verify_parts.specs.Heres.{operands, rule_by};
+ghost use Rattle.verse_verify_parts.specs.Mades.{made_of};
 ghost use Rattle.verse_verify_operands.specs.Finds.{broken};
 ghost use Rattle.verse_verify_calls.specs.Entering as e;
 
 use crate::entering::{does_object_fit, does_take, enter_rule, push_rule};
-use verse_verify_next::heres::Here;
-use verse_verify_next::mades::Made;
-use verse_verify_next::operands::pop;
 use verse_verify_notes::notes::FuncNote;
 use verse_verify_notes::sorts::Sort;
 use verse_verify_operands::finding::{method_in, pop_many};
+use verse_verify_parts::heres::Here;
+use verse_verify_parts::mades::Made;
+use verse_verify_parts::operands::pop;
 
 /// A method that is called or spawned, with how many arguments the operation says, and what it
 /// pushes.

@@ -8,8 +8,9 @@ use Rattle.verse_verify_faults.specs.Stepping.{is, need, on_there, pop_all, slot
 use Rattle.verse_verify_faults.specs.Stepping.{may_write, goes_on}
 use Rattle.verse_verify_notes.specs.declared.sorts.Sort as made
 use Rattle.verse_verify_notes.specs.View.{sort_of, sorts_of}
-use Rattle.verse_verify_next.specs.declared.heres.Here.{Here}
-use Rattle.verse_verify_next.specs.Heres.{code_in, table_in, spot_in, classes_in, operands, rule_by}
+use Rattle.verse_verify_parts.specs.declared.heres.Here.{Here}
+use Rattle.verse_verify_parts.specs.Heres.{code_in, table_in, spot_in, classes_in, operands}
+use Rattle.verse_verify_parts.specs.Heres.{rule_by}
 use Rattle.verse_verify_operands.specs.Finds.{there}
 
 abbrev pub slot_in : List ClassNote → Sort → ℕ → Result Sort ℕ

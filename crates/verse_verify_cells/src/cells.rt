@@ -4,17 +4,17 @@ ghost use Rattle.std.specs.Prelude.{◌≡◌};
 ghost use Rattle.verse_code.specs.declared.operations.Op.TheVariants as o;
 ghost use Rattle.verse_verify_faults.specs.Fitting.{each_fit};
 ghost use Rattle.verse_verify_notes.specs.View.{sorts_of};
-ghost use Rattle.verse_verify_next.specs.Heres.{classes_in};
+ghost use Rattle.verse_verify_parts.specs.Heres.{classes_in};
 ghost use Rattle.verse_verify_operands.specs.Finds.{broken};
 ghost use Rattle.verse_verify_cells.specs.Slots.{writing, making};
 
 use crate::slots::slot_in;
-use verse_verify_next::heres::Here;
-use verse_verify_next::mades::Made;
-use verse_verify_next::operands::pop;
 use verse_verify_notes::sorts::Sort;
 use verse_verify_operands::asking::may_write;
 use verse_verify_operands::finding::{part_at_path, pop_many};
+use verse_verify_parts::heres::Here;
+use verse_verify_parts::mades::Made;
+use verse_verify_parts::operands::pop;
 use verse_verify_sorts::fitting::does_each_fit;
 use verse_verify_values::pushing::{FEW, LACKS, SORT, pushes};
 

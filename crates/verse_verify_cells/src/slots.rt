@@ -4,13 +4,13 @@ ghost use Rattle.std.specs.Prelude.{◌≡◌, slice_get};
 ghost use Rattle.std.specs.Option.{option_map};
 ghost use Rattle.verse_verify_faults.specs.Stepping.{slots_at};
 ghost use Rattle.verse_verify_notes.specs.View.{sort_of};
-ghost use Rattle.verse_verify_next.specs.Heres.{classes_in};
+ghost use Rattle.verse_verify_parts.specs.Heres.{classes_in};
 ghost use Rattle.verse_verify_operands.specs.Finds.{seen};
 ghost use Rattle.verse_verify_cells.specs.Slots as t;
 
-use verse_verify_next::heres::Here;
-use verse_verify_next::rows::local_at;
 use verse_verify_notes::sorts::Sort;
+use verse_verify_parts::heres::Here;
+use verse_verify_parts::rows::local_at;
 use verse_verify_values::pushing::{LACKS, SORT};
 
 /// The sort of a slot of a class.

@@ -12,9 +12,9 @@ ghost use Rattle.verse_verify_notes.specs.View.{func_of, spot_of, table_of};
 ghost use Rattle.verse_verify_entries.specs.Entries.{begins_there, bare, all_nothing};
 
 use verse_code::codes::{Code, Func};
-use verse_verify_next::parts::{are_no_numbers, is_without_operand, is_without_try};
 use verse_verify_notes::notes::{ClassNote, FuncNote, Spot, Table};
 use verse_verify_notes::sorts::Sort;
+use verse_verify_parts::parts::{are_no_numbers, is_without_operand, is_without_try};
 use verse_verify_sorts::fitting::does_fit;
 use verse_verify_sorts::numbers::is_number;
 use verse_verify_tables::numbers::is_same_number;

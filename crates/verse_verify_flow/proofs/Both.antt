@@ -4,8 +4,8 @@ use Rattle.std.specs.Prelude.{◌&&◌}
 use Rattle.std.proofs.lemmas.Bool.{true≢false}
 use Rattle.verse_verify_faults.specs.Stepping.{Goes}
 use Rattle.verse_verify_faults.specs.Faults.{suits}
-use Rattle.verse_verify_next.specs.declared.heres.Here.{Here}
-use Rattle.verse_verify_next.specs.Heres.{code_in, table_in, spot_in, suited}
+use Rattle.verse_verify_parts.specs.declared.heres.Here.{Here}
+use Rattle.verse_verify_parts.specs.Heres.{code_in, table_in, spot_in, suited}
 
 and_no : (b c : Bool) → b && true ≡ false → false ≡ b && c
 and_no true c e = elim (true≢false e) [ ]

@@ -8,8 +8,8 @@ use Rattle.verse_verify_faults.specs.Stepping as t
 use Rattle.verse_verify_faults.specs.Stepping.{Stepped, Taking, breaks, need, on_there}
 use Rattle.verse_verify_notes.specs.declared.sorts.Sort.{Sort as Kept}
 use Rattle.verse_verify_notes.specs.View.{sort_of}
-use Rattle.verse_verify_next.specs.declared.heres.Here.{Here}
-use Rattle.verse_verify_next.specs.Heres.{classes_in}
+use Rattle.verse_verify_parts.specs.declared.heres.Here.{Here}
+use Rattle.verse_verify_parts.specs.Heres.{classes_in}
 use Rattle.verse_verify_operands.specs.Finds.{written_of}
 use Rattle.verse_verify_flow.specs.Writing.{writes_taken}
 

@@ -10,12 +10,12 @@ use Rattle.verse_verify_faults.specs.Stepping as t
 use Rattle.verse_verify_faults.specs.Stepping.{Stepped, breaks, leads, on_there}
 use Rattle.verse_verify_notes.specs.declared.sorts.Sort.{Sort}
 use Rattle.verse_verify_notes.specs.View.{sort_of, sorts_of}
-use Rattle.verse_verify_next.specs.declared.heres.Here.{Here}
-use Rattle.verse_verify_next.specs.declared.mades.Made.{Made}
-use Rattle.verse_verify_next.specs.Heres.{operands, suited, settled, rule_by}
-use Rattle.verse_verify_next.specs.Mades.{made_of}
+use Rattle.verse_verify_parts.specs.declared.heres.Here.{Here}
+use Rattle.verse_verify_parts.specs.declared.mades.Made.{Made}
+use Rattle.verse_verify_parts.specs.Heres.{operands, suited, settled, rule_by}
+use Rattle.verse_verify_parts.specs.Mades.{made_of}
 use Rattle.verse_verify_next.specs.Leads.{goes_to, goes_written}
-use Rattle.verse_verify_next.proofs.Locals.{put_there, put_past}
+use Rattle.verse_verify_parts.proofs.Locals.{put_there, put_past}
 use Rattle.verse_verify_operands.specs.declared.finding.Taking.{Taking}
 use Rattle.verse_verify_operands.specs.Finds.{writes_of}
 use Rattle.verse_verify_flow.specs.Writing.{writes_one, writes_two, writes_taken, wrote, to_state}
@@ -97,40 +97,42 @@ module _ (h : Here) (st : List s.Sort) (l d label : ℕ) (q : Taking) where
   abbrev takes : List t.Made → Stepped
   takes zs = leads (to_state h (suc h.index) st ∷ record (to_state h label st) { locals = zs } ∷ []) (l ∷ suc l ∷ d ∷ suc d ∷ []) None
 
-  pub taken_past : length h.spot.now.locals.items ≤ suc d → writes_taken h l d label (writes_of q) st ≡ breaks 6
-  taken_past p = two_past h.spot.now.locals.items d (made_of q.value) (made_of q.beside) (λ ys. on_there 6 (put ys (l + q.far) (made_of
-      q.last)) takes) p
+  pub taken_past : length h.spot.now.locals.value.items ≤ suc d → writes_taken h l d label (writes_of q) st ≡ breaks 6
+  taken_past p =
+      two_past h.spot.now.locals.value.items d (made_of q.value) (made_of q.beside)
+      (λ ys. on_there 6 (put ys (l + q.far) (made_of q.last)) takes) p
 
-  pub taken_far : suc d < length h.spot.now.locals.items → length h.spot.now.locals.items ≤ l + q.far →
+  pub taken_far : suc d < length h.spot.now.locals.value.items → length h.spot.now.locals.value.items ≤ l + q.far →
       writes_taken h l d label (writes_of q) st ≡ breaks 6
-  taken_far p o = three_past h.spot.now.locals.items d (made_of q.value) (made_of q.beside) (l + q.far) (made_of q.last) takes p o
+  taken_far p o = three_past h.spot.now.locals.value.items d (made_of q.value) (made_of q.beside) (l + q.far) (made_of q.last) takes p o
 
-  pub taken_there : suc d < length h.spot.now.locals.items → l + q.far < length h.spot.now.locals.items →
+  pub taken_there : suc d < length h.spot.now.locals.value.items → l + q.far < length h.spot.now.locals.value.items →
       writes_taken h l d label (writes_of q) st ≡
-      takes (set (set (set (before h.spot.now.locals.items) d (made_of q.value)) (suc d) (made_of q.beside)) (l + q.far) (made_of q.last))
-  taken_there p o = three_there h.spot.now.locals.items d (made_of q.value) (made_of q.beside) (l + q.far) (made_of q.last) takes p o
+      takes (set (set (set (before h.spot.now.locals.value.items) d (made_of q.value)) (suc d) (made_of q.beside)) (l + q.far)
+      (made_of q.last))
+  taken_there p o = three_there h.spot.now.locals.value.items d (made_of q.value) (made_of q.beside) (l + q.far) (made_of q.last) takes p o
 
 -- the rule that is broken where locals are written that are there
 module _ (h : Here) (st : List Sort) (j : ℕ) (r : Bool) where
-  pub one_rule : (l : ℕ) (m : Made) → l < length h.spot.now.locals.items → j ≡ suc h.index →
+  pub one_rule : (l : ℕ) (m : Made) → l < length h.spot.now.locals.value.items → j ≡ suc h.index →
       r ≡ suited h (goes_written h j (record { local = l; made = m } ∷ []) st ∷ []) →
       settled h r (l ∷ []) None ≡ rule_by h (writes_one h l (made_of m) (operands st))
   one_rule l m p e f = ap (λ b. settled h b (l ∷ []) None)
       (f ∙ ap (λ j. suited h (goes_written h j (record { local = l; made = m } ∷ []) st ∷ [])) e) ∙
-      sym (ap (rule_by h) (one_there h.spot.now.locals.items l (made_of m) (λ ls. wrote h ls (l ∷ []) (operands st)) p))
+      sym (ap (rule_by h) (one_there h.spot.now.locals.value.items l (made_of m) (λ ls. wrote h ls (l ∷ []) (operands st)) p))
 
-  pub two_rule : (l k : ℕ) (m n : Made) → k ≡ suc l → suc l < length h.spot.now.locals.items → j ≡ suc h.index →
+  pub two_rule : (l k : ℕ) (m n : Made) → k ≡ suc l → suc l < length h.spot.now.locals.value.items → j ≡ suc h.index →
       r ≡ suited h (goes_written h j (record { local = l; made = m } ∷ record { local = k; made = n } ∷ []) st ∷ []) →
       settled h r (l ∷ k ∷ []) None ≡ rule_by h (writes_two h l (made_of m) (made_of n) (operands st))
   two_rule l k m n i p e f = ap (λ k. settled h r (l ∷ k ∷ []) None) i ∙ ap (λ b. settled h b (l ∷ suc l ∷ []) None) (f ∙ ap (λ j. suited h
       (goes_written h j (record { local = l; made = m } ∷ record { local = k; made = n } ∷ []) st ∷ [])) e ∙ ap (λ k. suited h (goes_written
       h (suc h.index) (record { local = l; made = m } ∷ record { local = k; made = n } ∷ []) st ∷ [])) i) ∙ sym (ap (rule_by h) (two_there
-      h.spot.now.locals.items l (made_of m) (made_of n) (λ ls. wrote h ls (l ∷ suc l ∷ []) (operands st)) p))
+      h.spot.now.locals.value.items l (made_of m) (made_of n) (λ ls. wrote h ls (l ∷ suc l ∷ []) (operands st)) p))
 
 -- the same, behind the next state as it stands
 module _ (h : Here) (st : List Sort) (r : Bool) where
-  pub three_rule : (l d label : ℕ) (q : Taking) (s k : ℕ) → s ≡ suc l → k ≡ suc d → suc d < length h.spot.now.locals.items →
-      l + q.far < length h.spot.now.locals.items → r ≡ suited h (goes_to h (suc h.index) None st ∷ goes_written h label (record {
+  pub three_rule : (l d label : ℕ) (q : Taking) (s k : ℕ) → s ≡ suc l → k ≡ suc d → suc d < length h.spot.now.locals.value.items →
+      l + q.far < length h.spot.now.locals.value.items → r ≡ suited h (goes_to h (suc h.index) None st ∷ goes_written h label (record {
         local = d;
         made = q.value;
       } ∷ record { local = k; made = q.beside } ∷ record { local = l + q.far; made = q.last } ∷ []) st ∷ []) →

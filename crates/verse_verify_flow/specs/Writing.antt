@@ -4,8 +4,8 @@ use Rattle.verse_code_machine.specs.Frames.{put}
 use Rattle.verse_sorts.specs.Sorts.{Sort}
 use Rattle.verse_verify_faults.specs.Stepping as t
 use Rattle.verse_verify_faults.specs.Stepping.{Stepped, leads, on_there, to, writing}
-use Rattle.verse_verify_next.specs.declared.heres.Here.{Here}
-use Rattle.verse_verify_next.specs.Heres.{code_in, table_in, spot_in}
+use Rattle.verse_verify_parts.specs.declared.heres.Here.{Here}
+use Rattle.verse_verify_parts.specs.Heres.{code_in, table_in, spot_in}
 
 module _ (h : Here) where
   abbrev pub locals_in : List t.Made

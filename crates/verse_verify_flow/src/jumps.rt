@@ -2,15 +2,15 @@
 
 ghost use Rattle.std.specs.Prelude.{◌≡◌, ◌∷◌, [], None, suc};
 ghost use Rattle.verse_code.specs.declared.operations.Op.TheVariants as o;
-ghost use Rattle.verse_verify_next.specs.Heres.{suited};
+ghost use Rattle.verse_verify_parts.specs.Heres.{suited};
 ghost use Rattle.verse_verify_next.specs.Leads.{goes_to};
 ghost use Rattle.verse_verify_operands.specs.Finds.{broken};
 
 use verse_verify_keeps::settling::settle;
-use verse_verify_next::heres::Here;
 use verse_verify_next::leading::does_lead_to;
-use verse_verify_next::operands::pop;
 use verse_verify_notes::sorts::Sort;
+use verse_verify_parts::heres::Here;
+use verse_verify_parts::operands::pop;
 
 /// The rule that a Jump breaks.
 pub fn jump_rule(here: &Here, label: u32, st: &[Sort]) -> Option<u8>

@@ -6,12 +6,12 @@ ghost use Rattle.verse_verify_operands.specs.Finds.{broken};
 
 use crate::writing::write_one;
 use verse_verify_keeps::settling::settle;
-use verse_verify_next::heres::Here;
 use verse_verify_next::leading::does_lead_to;
-use verse_verify_next::mades::Made;
-use verse_verify_next::operands::pop;
 use verse_verify_notes::sorts::Sort;
 use verse_verify_operands::finding::{part_of_list, readable};
+use verse_verify_parts::heres::Here;
+use verse_verify_parts::mades::Made;
+use verse_verify_parts::operands::pop;
 
 /// The rule that a Get breaks.
 pub fn get_rule(here: &Here, local: u32, st: &[Sort]) -> Option<u8>

@@ -5,11 +5,11 @@ ghost use Rattle.verse_code.specs.declared.operations.Op.TheVariants as o;
 ghost use Rattle.verse_verify_operands.specs.Finds.{broken};
 
 use crate::writing::write_two;
-use verse_verify_next::heres::Here;
-use verse_verify_next::mades::Made;
-use verse_verify_next::operands::pop;
 use verse_verify_notes::sorts::Sort;
 use verse_verify_operands::asking::{is_counted, is_int};
+use verse_verify_parts::heres::Here;
+use verse_verify_parts::mades::Made;
+use verse_verify_parts::operands::pop;
 
 /// The rule that an Each breaks.
 pub fn each_rule(here: &Here, local: u32, st: &[Sort]) -> Option<u8>

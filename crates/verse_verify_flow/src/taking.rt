@@ -5,18 +5,19 @@ ghost use Rattle.std.specs.Option.{option_map};
 ghost use Rattle.verse_code.specs.declared.operations.Op.TheVariants as o;
 ghost use Rattle.verse_verify_faults.specs.Stepping as t;
 ghost use Rattle.verse_verify_notes.specs.View.{sort_of};
-ghost use Rattle.verse_verify_next.specs.Heres.{classes_in, operands, rule_by, suited};
+ghost use Rattle.verse_verify_parts.specs.Heres.{classes_in, operands, rule_by, suited};
 ghost use Rattle.verse_verify_next.specs.Leads.{goes_to, goes_written};
 ghost use Rattle.verse_verify_operands.specs.Finds.{broken, writes_of};
 ghost use Rattle.verse_verify_flow.specs.Writing as w;
 
+use crate::writing::locals_count;
 use verse_verify_keeps::settling::settle;
-use verse_verify_next::heres::Here;
 use verse_verify_next::leading::{does_lead_to, does_lead_written};
-use verse_verify_next::rows::Write;
 use verse_verify_notes::sorts::Sort;
 use verse_verify_operands::asking::is_int;
 use verse_verify_operands::finding::{Taking, readable, taken};
+use verse_verify_parts::heres::Here;
+use verse_verify_parts::rows::Write;
 
 /// Whether a local that may be read has a domain.
 fn may_take(here: &Here, low: Option<&Sort>) -> bool
@@ -68,7 +69,7 @@ fn write_taken(
     let value = value as usize;
     let next = value + 1;
     let last = domain + taking.far;
-    let count = here.spot.locals.len();
+    let count = locals_count(here);
     if next >= count {
         return Some(6);
     }

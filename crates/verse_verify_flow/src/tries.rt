@@ -4,15 +4,15 @@ ghost use Rattle.std.specs.Prelude.{◌≡◌, ◌∷◌, [], None};
 ghost use Rattle.verse_code.specs.declared.operations.Op.TheVariants as o;
 ghost use Rattle.verse_verify_faults.specs.Stepping.{label_locals, label_at};
 ghost use Rattle.verse_verify_notes.specs.View.{sorts_of};
-ghost use Rattle.verse_verify_next.specs.Heres.{code_in, table_in, spot_in, suited};
+ghost use Rattle.verse_verify_parts.specs.Heres.{code_in, table_in, spot_in, suited};
 ghost use Rattle.verse_verify_next.specs.Leads.{goes_to, goes_in};
 ghost use Rattle.verse_verify_operands.specs.Finds.{broken};
 
 use verse_verify_keeps::settling::settle;
 use verse_verify_keeps::tries::try_label;
-use verse_verify_next::heres::Here;
 use verse_verify_next::leading::{does_lead_in, does_lead_out, does_lead_to};
 use verse_verify_notes::sorts::Sort;
+use verse_verify_parts::heres::Here;
 
 /// Whether the next state suits, in the attempt, and that at the label behind it.
 fn do_lead_in(here: &Here, label: u32, st: &[Sort]) -> bool
@@ -38,7 +38,7 @@ pub fn commit_rule(here: &Here, st: &[Sort]) -> Option<u8>
 }
 
 /// The locals at the label of the innermost open Try; those here where that is not known.
-#[tactic(auto, using(verse_verify_next::proofs::Lists::top_first))]
+#[tactic(auto, using(verse_verify_parts::proofs::Lists::top_first))]
 fn label_locals<'a>(here: &Here<'a>) -> &'a [Sort]
     ensures { sorts_of result.now ≡ label_locals (table_in here.now)
         (label_at (code_in here.now) (spot_in here.now).tries) (spot_in here.now).locals }

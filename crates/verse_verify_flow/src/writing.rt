@@ -1,16 +1,23 @@
 //! The locals that an operation writes.
 
-ghost use Rattle.std.specs.Prelude.{◌≡◌};
-ghost use Rattle.verse_verify_next.specs.Heres.{operands, rule_by};
-ghost use Rattle.verse_verify_next.specs.Mades.{made_of};
+ghost use Rattle.std.specs.Prelude.{◌≡◌, length};
+ghost use Rattle.verse_verify_parts.specs.Heres.{operands, rule_by};
+ghost use Rattle.verse_verify_parts.specs.Mades.{made_of};
 ghost use Rattle.verse_verify_flow.specs.Writing as w;
 
 use verse_verify_keeps::settling::settle;
-use verse_verify_next::heres::Here;
 use verse_verify_next::leading::does_lead_written;
-use verse_verify_next::mades::Made;
-use verse_verify_next::rows::Write;
 use verse_verify_notes::sorts::Sort;
+use verse_verify_parts::heres::Here;
+use verse_verify_parts::mades::Made;
+use verse_verify_parts::rows::Write;
+
+/// How many locals there are.
+pub(crate) fn locals_count(here: &Here) -> usize
+    ensures { result ≡ length here.now.spot.now.locals.value.items }
+{
+    here.spot.locals.len()
+}
 
 /// The rule that an operation breaks which writes a local.
 pub fn write_one(here: &Here, local: u32, made: Made, st: &[Sort]) -> Option<u8>
@@ -18,7 +25,7 @@ pub fn write_one(here: &Here, local: u32, made: Made, st: &[Sort]) -> Option<u8>
         (w.writes_one here.now local (made_of made.entry) (operands st.now)) }
 {
     let local = local as usize;
-    let count = here.spot.locals.len();
+    let count = locals_count(here);
     if local >= count {
         return Some(6);
     }
@@ -34,7 +41,7 @@ pub fn write_two(here: &Here, local: u32, made: Made, behind: Made, st: &[Sort])
 {
     let local = local as usize;
     let next = local + 1;
-    let count = here.spot.locals.len();
+    let count = locals_count(here);
     if next >= count {
         return Some(6);
     }

@@ -2,8 +2,8 @@
 use Rattle.std.specs.Prelude.{Bool, ◌&&◌, ◌||◌, Option}
 use Rattle.verse_verify_kept.specs.Notes.{FuncNote}
 use Rattle.verse_verify_faults.specs.Faults as f
-use Rattle.verse_verify_next.specs.declared.heres.Here.{Here}
-use Rattle.verse_verify_next.specs.Heres.{code_in, table_in}
+use Rattle.verse_verify_parts.specs.declared.heres.Here.{Here}
+use Rattle.verse_verify_parts.specs.Heres.{code_in, table_in}
 
 module _ (h : Here) where
   -- the operation, or the function that it calls, may fail, or wait; it spawns one that may fail

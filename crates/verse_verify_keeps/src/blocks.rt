@@ -3,13 +3,13 @@
 ghost use Rattle.std.specs.Prelude.{◌≡◌, ◌≤◌};
 ghost use Rattle.verse_verify_notes.specs.View.{sorts_of, spot_of};
 ghost use Rattle.verse_verify_faults.specs.Faults as f;
-ghost use Rattle.verse_verify_next.specs.Heres.{code_in, table_in, spot_in};
+ghost use Rattle.verse_verify_parts.specs.Heres.{code_in, table_in, spot_in};
 
-use verse_verify_next::heres::Here;
-use verse_verify_next::names::are_last_names;
-use verse_verify_next::parts::{are_no_numbers, is_same_arm, is_without_operand, is_without_try};
 use verse_verify_notes::notes::Spot;
 use verse_verify_notes::sorts::Sort;
+use verse_verify_parts::heres::Here;
+use verse_verify_parts::names::are_last_names;
+use verse_verify_parts::parts::{are_no_numbers, is_same_arm, is_without_operand, is_without_try};
 use verse_verify_sorts::fitting::does_each_fit;
 use verse_verify_sorts::numbers::is_number;
 use verse_verify_tables::numbers::is_same_number;

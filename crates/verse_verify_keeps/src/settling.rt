@@ -4,15 +4,15 @@ ghost use Rattle.std.specs.Prelude.{◌≡◌, ◌&&◌};
 ghost use Rattle.std.specs.Option.{option_map};
 ghost use Rattle.verse_verify_notes.specs.View.{func_of};
 ghost use Rattle.verse_verify_faults.specs.Faults as f;
-ghost use Rattle.verse_verify_next.specs.Heres.{code_in, table_in, spot_in, names_in, settled};
+ghost use Rattle.verse_verify_parts.specs.Heres.{code_in, table_in, spot_in, names_in, settled};
 ghost use Rattle.verse_verify_keeps.specs.Parts.{fails};
 
 use crate::blocks::are_ready;
 use crate::kinds::{can_fail, is_call};
 use crate::tries::{are_around, are_quiet, do_tries_fit, may_fail};
 use crate::waits::keeps_parts;
-use verse_verify_next::heres::Here;
 use verse_verify_notes::notes::FuncNote;
+use verse_verify_parts::heres::Here;
 
 /// Whether an operation, or the function that it calls, may fail.
 fn does_fail(here: &Here, callee: Option<&FuncNote>) -> bool

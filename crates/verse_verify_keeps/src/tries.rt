@@ -8,14 +8,14 @@ ghost use Rattle.verse_verify_notes.specs.View.{sort_of};
 ghost use Rattle.verse_verify_faults.specs.Fitting.{same};
 ghost use Rattle.verse_verify_faults.specs.Stepping.{try_label};
 ghost use Rattle.verse_verify_faults.specs.Faults as f;
-ghost use Rattle.verse_verify_next.specs.Heres.{code_in, table_in, spot_in, names_in};
+ghost use Rattle.verse_verify_parts.specs.Heres.{code_in, table_in, spot_in, names_in};
 
 use verse_code::operations::Op;
-use verse_verify_next::heres::Here;
-use verse_verify_next::names::{name_at, names_count};
-use verse_verify_next::parts::{are_same_numbers, is_without_operand, is_without_try};
-use verse_verify_next::rows::local_at;
 use verse_verify_notes::sorts::Sort;
+use verse_verify_parts::heres::Here;
+use verse_verify_parts::names::{name_at, names_count};
+use verse_verify_parts::parts::{are_same_numbers, is_without_operand, is_without_try};
+use verse_verify_parts::rows::local_at;
 use verse_verify_tables::numbers::{is_below, is_same_number};
 
 /// The label of the Try of this index.
@@ -55,7 +55,7 @@ fn is_around(here: &Here, name: u32) -> bool
 }
 
 /// Whether all open Trys are such.
-#[tactic(auto, using(verse_verify_next::proofs::RuleSets::of_names))]
+#[tactic(auto, using(verse_verify_parts::proofs::RuleSets::of_names))]
 pub fn are_around(here: &Here) -> bool
     ensures { result ≡ f.all_around (code_in here.now) (table_in here.now) here.now.index
         (names_in here.now) }
@@ -100,7 +100,7 @@ fn is_free(here: &Here, name: u32, local: usize) -> bool
 }
 
 /// Whether the labels of all open Trys ask nothing of a local.
-#[tactic(auto, using(verse_verify_next::proofs::RuleSets::of_names))]
+#[tactic(auto, using(verse_verify_parts::proofs::RuleSets::of_names))]
 fn is_quiet(here: &Here, local: usize) -> bool
     ensures { result ≡ f.is_quiet (code_in here.now) (table_in here.now) (names_in here.now)
         local }
@@ -149,7 +149,7 @@ pub fn may_fail(here: &Here) -> bool
 }
 
 /// Whether the innermost open Try has the deferred blocks of this state.
-#[tactic(auto, using(verse_verify_next::proofs::Lists::top_first))]
+#[tactic(auto, using(verse_verify_parts::proofs::Lists::top_first))]
 fn is_level(here: &Here) -> bool
     ensures { result ≡ f.level (code_in here.now) (table_in here.now) (spot_in here.now).tries
         (spot_in here.now).defers }
@@ -164,7 +164,7 @@ fn is_level(here: &Here) -> bool
 }
 
 /// Whether the stack is as high as at the innermost open Try.
-#[tactic(auto, using(verse_verify_next::proofs::Lists::top_first))]
+#[tactic(auto, using(verse_verify_parts::proofs::Lists::top_first))]
 fn is_at_height(here: &Here) -> bool
     ensures { result ≡ f.at_height (code_in here.now) (table_in here.now) (spot_in here.now).stack
         (spot_in here.now).tries }
@@ -176,7 +176,7 @@ fn is_at_height(here: &Here) -> bool
 }
 
 /// How many deferred blocks the innermost open Try keeps.
-#[tactic(auto, using(verse_verify_next::proofs::Lists::top_first))]
+#[tactic(auto, using(verse_verify_parts::proofs::Lists::top_first))]
 fn kept(here: &Here) -> usize
     ensures { result ≡ f.keeps (code_in here.now) (table_in here.now) (spot_in here.now).tries }
 {

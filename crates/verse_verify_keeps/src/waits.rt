@@ -6,14 +6,14 @@ ghost use Rattle.verse_code_machine.specs.Acts.{label_of};
 ghost use Rattle.verse_verify_notes.specs.View.{func_of};
 ghost use Rattle.verse_verify_faults.specs.Faults as f;
 ghost use Rattle.verse_verify_faults.specs.Faults.{is_none, is_nil};
-ghost use Rattle.verse_verify_next.specs.Heres.{code_in, table_in, spot_in};
+ghost use Rattle.verse_verify_parts.specs.Heres.{code_in, table_in, spot_in};
 ghost use Rattle.verse_verify_keeps.specs.Parts.{waits, spawns_failing};
 
 use crate::kinds::{can_wait, is_call, is_spawn};
 use verse_code::operations::Op;
-use verse_verify_next::heres::Here;
-use verse_verify_next::parts::{are_no_numbers, is_without_try};
 use verse_verify_notes::notes::{FuncNote, Spot};
+use verse_verify_parts::heres::Here;
+use verse_verify_parts::parts::{are_no_numbers, is_without_try};
 
 /// Whether the task may wait here.
 fn may_wait(here: &Here) -> bool

@@ -1,4 +1,1 @@
-pub mod Lists
-pub mod Locals
-pub mod Naming
 pub mod RuleSets

@@ -1,9 +1,4 @@
 -- The lemmas that the goals of a function want, by its name.
-use Rattle.verse_verify_next.proofs.Lists.{holds_are, no_operands, no_marks}
-use Rattle.verse_verify_next.proofs.Naming.{from_name, past_names, ended, same_from, end_yes, end_no}
-
-pub ruleset of_names = (from_name, past_names, ended)
+use Rattle.verse_verify_parts.proofs.Lists.{holds_are, no_operands, no_marks}
 
 pub ruleset of_leading = (holds_are, no_operands, no_marks)
-
-pub ruleset of_numbers = (same_from, end_yes, end_no)

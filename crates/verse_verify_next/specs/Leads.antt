@@ -4,11 +4,11 @@ use Rattle.verse_verify_faults.specs.Stepping as t
 use Rattle.verse_verify_faults.specs.Stepping.{Goes, inner, tails, to, arm_at, block_at}
 use Rattle.verse_verify_notes.specs.declared.sorts.Sort.{Sort}
 use Rattle.verse_verify_notes.specs.View.{sorts_of}
-use Rattle.verse_verify_next.specs.declared.heres.Here.{Here}
-use Rattle.verse_verify_next.specs.declared.mades.Made.{Made}
-use Rattle.verse_verify_next.specs.declared.rows.Write.{Write}
-use Rattle.verse_verify_next.specs.Heres.{code_in, table_in, spot_in, operands}
-use Rattle.verse_verify_next.specs.Mades.{pushed, written}
+use Rattle.verse_verify_parts.specs.declared.heres.Here.{Here}
+use Rattle.verse_verify_parts.specs.declared.mades.Made.{Made}
+use Rattle.verse_verify_parts.specs.declared.rows.Write.{Write}
+use Rattle.verse_verify_parts.specs.Heres.{code_in, table_in, spot_in, operands}
+use Rattle.verse_verify_parts.specs.Mades.{pushed, written}
 
 module _ (h : Here) where
   -- with what was pushed on the operands that are left

@@ -1,3 +1,1 @@
-pub mod Heres
-pub mod Mades
 pub mod Leads

@@ -4,23 +4,23 @@ ghost use Rattle.std.specs.Prelude.{◌≡◌, ◌≤◌, ◌+◌, ◌∷◌, []
 ghost use Rattle.verse_verify_faults.specs.Stepping.{block_again, begins_arm, begins_block};
 ghost use Rattle.verse_verify_faults.specs.Faults.{same_arm, same_number, same_numbers, of_part};
 ghost use Rattle.verse_verify_notes.specs.View.{spot_of};
-ghost use Rattle.verse_verify_next.specs.Heres.{code_in, table_in, spot_in, suited};
-ghost use Rattle.verse_verify_next.specs.Heres.{near, placed, names_in};
+ghost use Rattle.verse_verify_parts.specs.Heres.{code_in, table_in, spot_in, suited};
+ghost use Rattle.verse_verify_parts.specs.Heres.{near, placed, names_in};
 ghost use Rattle.verse_verify_next.specs.Leads.{goes_to, goes_written, goes_in, goes_out};
 ghost use Rattle.verse_verify_next.specs.Leads.{goes_deferring, goes_left};
 ghost use Rattle.verse_verify_next.specs.Leads.{arm_begins, block_begins};
 
-use crate::heres::Here;
-use crate::mades::Made;
-use crate::names::are_names;
-use crate::parts::{
+use verse_verify_notes::notes::Spot;
+use verse_verify_notes::sorts::Sort;
+use verse_verify_parts::heres::Here;
+use verse_verify_parts::mades::Made;
+use verse_verify_parts::names::are_names;
+use verse_verify_parts::parts::{
     are_no_numbers, are_same_marks, are_same_numbers, is_in_try, is_near, is_out_of_try,
     is_same_arm, is_without_operand, is_without_try,
 };
-use crate::rows::{Write, do_locals_hold};
-use crate::stacks::{do_operands_hold, does_stack_hold};
-use verse_verify_notes::notes::Spot;
-use verse_verify_notes::sorts::Sort;
+use verse_verify_parts::rows::{Write, do_locals_hold};
+use verse_verify_parts::stacks::{do_operands_hold, does_stack_hold};
 use verse_verify_sorts::fitting::does_each_fit;
 use verse_verify_sorts::numbers::is_number;
 use verse_verify_tables::numbers::is_same_number;

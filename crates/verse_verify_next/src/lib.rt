@@ -1,17 +1,7 @@
 //! V7 of a verifier: whether the states to which an operation leads suit.
 //!
-//! To be read in this order: `heres`, an operation and the state at it; `operands`, what it pops;
-//! `mades`, what it makes; `stacks`, `rows` and `parts`, whether a next state has that stack, those
-//! locals, and that arm, block and open Trys; `names`, all open Trys; `leading`, whole states.
-//! `specs/Heres` and
-//! `specs/Mades` say what they are to the definitions.
+//! `leading` puts together what the tests of a state's parts say; `specs/Leads` says what the
+//! states are to the definitions.
 #![tactic(auto)]
 
-pub mod heres;
 pub mod leading;
-pub mod mades;
-pub mod names;
-pub mod operands;
-pub mod parts;
-pub mod rows;
-pub mod stacks;

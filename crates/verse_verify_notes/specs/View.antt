@@ -32,7 +32,7 @@ sort_step (made.Task a) = s.task a.value
 sort_step (made.Option a) = s.opt a.value
 sort_step (made.List a) = s.list a.value
 sort_step (made.Map k a) = s.map k.value a.value
-sort_step (made.Tuple xs) = s.tuple (sorts xs.items)
+sort_step (made.Tuple xs) = s.tuple (sorts xs.value.items)
 
 abbrev pub sort_of : Made → Sort
 sort_of = fold-Sort Sort sort_step
@@ -62,7 +62,7 @@ abbrev pub spot_of : Spot → p.Spot
 spot_of s = record {
   func = s.func;
   arm = option_map sort_of s.arm;
-  locals = sorts_of s.locals.items;
+  locals = sorts_of s.locals.value.items;
   stack = reverse (sorts_of s.stack.items);
   tries = reverse (map mark_of s.tries.items);
   block = s.block;

@@ -1,6 +1,7 @@
 //! Notes of a code.
 
 use crate::sorts::Sort;
+use std::rc::Rc;
 
 /// What notes say of a class.
 #[derive(Drop)]
@@ -36,7 +37,8 @@ pub struct Spot {
     pub func: u32,
     /// In an arm or in a task behind, the sort of its value.
     pub arm: Option<Sort>,
-    pub locals: Vec<Sort>,
+    /// States share them until a local changes.
+    pub locals: Rc<Vec<Sort>>,
     /// The sorts of the operands, that of the top last.
     pub stack: Vec<Sort>,
     /// The open Trys, the innermost last.

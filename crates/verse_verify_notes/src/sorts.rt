@@ -1,7 +1,9 @@
 //! Sorts.
 
-/// What a value is, as far as an operation can ask. Sorts that are read from notes have at most 40
-/// levels, so that one is let go with little stack.
+use std::rc::Rc;
+
+/// What a value is, as far as an operation can ask. Copies of a sort share its parts. Sorts that are
+/// read from notes have at most 40 levels, so that one is let go with little stack.
 #[cycle(sort)]
 #[derive(Drop)]
 pub enum Sort {
@@ -24,12 +26,12 @@ pub enum Sort {
     /// An object of a class, by its number.
     Object(u32),
     /// A variable's cell.
-    Var(Box<Sort>),
-    Event(Box<Sort>),
-    Task(Box<Sort>),
-    Option(Box<Sort>),
-    List(Box<Sort>),
+    Var(Rc<Sort>),
+    Event(Rc<Sort>),
+    Task(Rc<Sort>),
+    Option(Rc<Sort>),
+    List(Rc<Sort>),
     /// A map, by the sorts of its keys and of its values.
-    Map(Box<Sort>, Box<Sort>),
-    Tuple(Vec<Sort>),
+    Map(Rc<Sort>, Rc<Sort>),
+    Tuple(Rc<Vec<Sort>>),
 }

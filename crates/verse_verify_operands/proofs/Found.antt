@@ -15,7 +15,7 @@ use Rattle.verse_verify_faults.specs.Stepping.{Stepped, pop_all, on_there, on_tu
 use Rattle.verse_verify_faults.specs.Stepping.{note_of, methods_of}
 use Rattle.verse_verify_notes.specs.declared.sorts.Sort.{Sort as Kept}
 use Rattle.verse_verify_notes.specs.View.{sort_of, sorts_of}
-use Rattle.verse_verify_next.specs.Heres.{operands}
+use Rattle.verse_verify_parts.specs.Heres.{operands}
 use Rattle.verse_verify_operands.specs.Finds.{popped, on_popped, found, there, item_in, task_of, heard_of, method_in, method_there}
 use Rattle.verse_verify_operands.specs.Finds.{on_found}
 

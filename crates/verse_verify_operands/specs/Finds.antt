@@ -12,9 +12,9 @@ use Rattle.verse_verify_faults.specs.Stepping as t
 use Rattle.verse_verify_faults.specs.Stepping.{Stepped, Taking, breaks, slots_at, note_of}
 use Rattle.verse_verify_faults.specs.Stepping.{methods_of, step}
 use Rattle.verse_verify_notes.specs.declared.sorts.Sort as made
-use Rattle.verse_verify_next.specs.declared.heres.Here.{Here}
-use Rattle.verse_verify_next.specs.Heres.{code_in, table_in, spot_in, operands, rule_by}
-use Rattle.verse_verify_next.specs.Mades.{made_of}
+use Rattle.verse_verify_parts.specs.declared.heres.Here.{Here}
+use Rattle.verse_verify_parts.specs.Heres.{code_in, table_in, spot_in, operands, rule_by}
+use Rattle.verse_verify_parts.specs.Mades.{made_of}
 use Rattle.verse_verify_operands.specs.declared.finding.Taking.{Taking as Takes}
 
 -- so many operands, in the order in which they were pushed, and those beneath them

@@ -6,10 +6,10 @@ ghost use Rattle.verse_verify_faults.specs.Fitting.{fit};
 ghost use Rattle.verse_verify_faults.specs.Stepping as t;
 ghost use Rattle.verse_verify_faults.specs.Stepping.{firsts, all_keys};
 ghost use Rattle.verse_verify_notes.specs.View.{sort_of, sorts_of};
-ghost use Rattle.verse_verify_next.specs.Heres.{classes_in};
+ghost use Rattle.verse_verify_parts.specs.Heres.{classes_in};
 
-use verse_verify_next::heres::Here;
 use verse_verify_notes::sorts::Sort;
+use verse_verify_parts::heres::Here;
 use verse_verify_sorts::fitting::does_fit;
 use verse_verify_sorts::keys::is_key;
 

@@ -7,17 +7,17 @@ ghost use Rattle.verse_sorts.specs.Typing.{at};
 ghost use Rattle.verse_verify_kept.specs.Rules.{sorts, at_sort};
 ghost use Rattle.verse_verify_faults.specs.Stepping as t;
 ghost use Rattle.verse_verify_notes.specs.View.{sort_of, sorts_of, func_of, classes_of};
-ghost use Rattle.verse_verify_next.specs.Heres.{code_in, table_in, classes_in, operands};
-ghost use Rattle.verse_verify_next.specs.Mades.{made_of};
+ghost use Rattle.verse_verify_parts.specs.Heres.{code_in, table_in, classes_in, operands};
+ghost use Rattle.verse_verify_parts.specs.Mades.{made_of};
 ghost use Rattle.verse_verify_operands.specs.Finds as f;
 ghost use Rattle.verse_verify_operands.specs.Finds.{seen};
 
 use crate::asking::{is_fit, is_int, is_span};
-use verse_verify_next::heres::Here;
-use verse_verify_next::mades::Made;
-use verse_verify_next::rows::local_at;
 use verse_verify_notes::notes::FuncNote;
 use verse_verify_notes::sorts::Sort;
+use verse_verify_parts::heres::Here;
+use verse_verify_parts::mades::Made;
+use verse_verify_parts::rows::local_at;
 use verse_verify_sorts::keys::is_key;
 
 /// So many operands, and those beneath them. None where there are fewer.
@@ -36,7 +36,7 @@ pub fn pop_many(st: &[Sort], count: usize) -> Option<(&[Sort], &[Sort])>
 /// The sort of a local that may be read.
 pub fn readable<'a>(here: &Here<'a>, local: usize) -> Option<&'a Sort>
     ensures { option_map (λ a. sort_of a.now) result ≡
-        t.readable (at (sorts_of here.now.spot.now.locals.items) local) }
+        t.readable (at (sorts_of here.now.spot.now.locals.value.items) local) }
 {
     match local_at(&here.spot.locals, local) {
         None => None,

@@ -16,8 +16,8 @@ use Rattle.verse_verify_faults.specs.Fitting.{is_never, any_never}
 use Rattle.verse_verify_faults.specs.Faults.{begins_at, by_step, fault_of, fault_here, first_fault, lacks_values, or_later, pops}
 use Rattle.verse_verify_notes.specs.View.{sorts_of}
 use Rattle.verse_verify_notes.specs.declared.sorts.Sort.{Sort as Kept}
-use Rattle.verse_verify_next.specs.Heres.{operands}
-use Rattle.verse_verify_next.proofs.Lists.{stack_length}
+use Rattle.verse_verify_parts.specs.Heres.{operands}
+use Rattle.verse_verify_parts.proofs.Lists.{stack_length}
 
 pub from_op : (ops : List Op) (i : ℕ) (op : Op) → slice_get ops i ≡ Some op → drop i ops ≡ op ∷ drop (suc i) ops
 from_op [] i op e = elim (none-some _ e) [ ]

@@ -7,8 +7,8 @@ use verse_code::operations::Op;
 use verse_verify_calls::{functions, methods};
 use verse_verify_cells::cells;
 use verse_verify_flow::{jumps, locals, loops, taking, tries};
-use verse_verify_next::heres::Here;
 use verse_verify_notes::sorts::Sort;
+use verse_verify_parts::heres::Here;
 use verse_verify_tasks::{blocks, groups, waits};
 use verse_verify_values::{containers, numbers, pushing};
 

@@ -4,7 +4,7 @@ ghost use Rattle.std.specs.Prelude.{◌≡◌, Some, None, cond};
 ghost use Rattle.verse_verify_notes.specs.View.{spot_of, table_of};
 ghost use Rattle.verse_verify_faults.specs.Spots.{spot_at};
 ghost use Rattle.verse_verify_faults.specs.Faults as f;
-ghost use Rattle.verse_verify_next.specs.Heres.{code_in, table_in, spot_in};
+ghost use Rattle.verse_verify_parts.specs.Heres.{code_in, table_in, spot_in};
 
 use crate::operations::rule_of;
 use verse_code::codes::Code;
@@ -13,9 +13,9 @@ use verse_verify_entries::beginnings::spot_at;
 use verse_verify_keeps::blocks::are_ready;
 use verse_verify_keeps::kinds::pops;
 use verse_verify_keeps::tries::are_around;
-use verse_verify_next::heres::Here;
-use verse_verify_next::operands::above;
 use verse_verify_notes::notes::{Spot, Table};
+use verse_verify_parts::heres::Here;
+use verse_verify_parts::operands::above;
 use verse_verify_sorts::values::any_never;
 
 /// Whether an operand above the innermost open Try, or a local, has no value.

@@ -10,6 +10,7 @@ ghost use Rattle.verse_verify_faults.specs.Reading.{plain_sorts, sort_with, sort
 ghost use Rattle.verse_verify_notes.specs.View.{sort_of, sorts_of};
 
 use std::alloc::Global;
+use std::rc::Rc;
 use verse_code::codes::Code;
 use verse_image::faults::ReadFault;
 use verse_image::numbers::{bad, number, within};
@@ -89,17 +90,17 @@ fn object_sort<'a>(code: &Code, bytes: &'a [u8]) -> Result<(Sort, &'a [u8]), Rea
 }
 
 #[cycle(sort)]
-fn boxed<'a>(
+fn shared<'a>(
     alloc: Global,
     code: &Code,
     levels: u8,
     bytes: &'a [u8],
-) -> Result<(Box<Sort>, &'a [u8]), ReadFault>
+) -> Result<(Rc<Sort>, &'a [u8]), ReadFault>
     ensures { Gives (λ x. (sort_of x.0.value, x.1.now)) result
         (sort_in code.now levels bytes.now) }
 {
     let (part, rest) = sort_part(alloc, code, levels, bytes)?;
-    Ok((Box::new(alloc, part)?, rest))
+    Ok((Rc::new(alloc, part)?, rest))
 }
 
 #[cycle(sort)]
@@ -112,7 +113,7 @@ fn var_sort<'a>(
     ensures { Gives (λ x. (sort_of x.0, x.1.now)) result
         (after (sort_in code.now levels bytes.now) (λ a. answers (var a))) }
 {
-    let (part, rest) = boxed(alloc, code, levels, bytes)?;
+    let (part, rest) = shared(alloc, code, levels, bytes)?;
     Ok((Sort::Var(part), rest))
 }
 
@@ -126,7 +127,7 @@ fn event_sort<'a>(
     ensures { Gives (λ x. (sort_of x.0, x.1.now)) result
         (after (sort_in code.now levels bytes.now) (λ a. answers (event a))) }
 {
-    let (part, rest) = boxed(alloc, code, levels, bytes)?;
+    let (part, rest) = shared(alloc, code, levels, bytes)?;
     Ok((Sort::Event(part), rest))
 }
 
@@ -140,7 +141,7 @@ fn task_sort<'a>(
     ensures { Gives (λ x. (sort_of x.0, x.1.now)) result
         (after (sort_in code.now levels bytes.now) (λ a. answers (task a))) }
 {
-    let (part, rest) = boxed(alloc, code, levels, bytes)?;
+    let (part, rest) = shared(alloc, code, levels, bytes)?;
     Ok((Sort::Task(part), rest))
 }
 
@@ -154,7 +155,7 @@ fn option_sort<'a>(
     ensures { Gives (λ x. (sort_of x.0, x.1.now)) result
         (after (sort_in code.now levels bytes.now) (λ a. answers (opt a))) }
 {
-    let (part, rest) = boxed(alloc, code, levels, bytes)?;
+    let (part, rest) = shared(alloc, code, levels, bytes)?;
     Ok((Sort::Option(part), rest))
 }
 
@@ -168,7 +169,7 @@ fn list_sort<'a>(
     ensures { Gives (λ x. (sort_of x.0, x.1.now)) result
         (after (sort_in code.now levels bytes.now) (λ a. answers (list a))) }
 {
-    let (part, rest) = boxed(alloc, code, levels, bytes)?;
+    let (part, rest) = shared(alloc, code, levels, bytes)?;
     Ok((Sort::List(part), rest))
 }
 
@@ -183,8 +184,8 @@ fn map_sort<'a>(
         (after (sort_in code.now levels bytes.now) (λ k rest.
         after (sort_in code.now levels rest) (λ a. answers (map k a)))) }
 {
-    let (key, rest) = boxed(alloc, code, levels, bytes)?;
-    let (value, rest) = boxed(alloc, code, levels, rest)?;
+    let (key, rest) = shared(alloc, code, levels, bytes)?;
+    let (value, rest) = shared(alloc, code, levels, rest)?;
     Ok((Sort::Map(key, value), rest))
 }
 
@@ -200,7 +201,7 @@ fn tuple_sort<'a>(
 {
     let (count, rest) = number(bytes)?;
     let (parts, rest) = parts(alloc, code, levels, count, rest)?;
-    Ok((Sort::Tuple(parts), rest))
+    Ok((Sort::Tuple(Rc::new(alloc, parts)?), rest))
 }
 
 // So many sorts of at most so many levels.

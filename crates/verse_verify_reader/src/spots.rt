@@ -12,6 +12,7 @@ use crate::choices::{CHOICES_END, maybe_index, maybe_sort};
 use crate::lists::{indices, marks, sort_list};
 use crate::sorts::sorts;
 use std::alloc::Global;
+use std::rc::Rc;
 use verse_code::codes::Code;
 use verse_code::operations::Op;
 use verse_image::faults::ReadFault;
@@ -62,11 +63,11 @@ fn bare_spot(
     alloc: Global,
     func: u32,
     arm: Option<Sort>,
-    locals: Vec<Sort>,
+    locals: Rc<Vec<Sort>>,
     stack: Vec<Sort>,
     tries: Vec<Mark>,
 ) -> Spot
-    ensures { spot_of result ≡ bare_spot func (option_map sort_of arm) (sorts_of locals.items)
+    ensures { spot_of result ≡ bare_spot func (option_map sort_of arm) (sorts_of locals.value.items)
         (sorts_of stack.items) (map mark_of tries.items) }
 {
     Spot {
@@ -131,7 +132,7 @@ pub fn spot<'a>(
     let (locals, rest) = locals(alloc, code, func, rest)?;
     let (stack, rest) = sort_list(alloc, code, rest)?;
     let (tries, rest) = marks(alloc, code, rest)?;
-    let spot = bare_spot(alloc, func, arm, locals, stack, tries);
+    let spot = bare_spot(alloc, func, arm, Rc::new(alloc, locals)?, stack, tries);
     with_block(alloc, code, is_told, spot, rest)
 }
 

@@ -15,8 +15,8 @@ use Rattle.verse_verify_faults.specs.Stepping.{Goes, arm_at, arm_labels, with_la
 use Rattle.verse_verify_faults.specs.Stepping.{grouped}
 use Rattle.verse_verify_faults.specs.Faults.{holds, is_none, on_spot, suits}
 use Rattle.verse_verify_faults.proofs.Fitting.{some_is}
-use Rattle.verse_verify_next.specs.declared.heres.Here.{Here}
-use Rattle.verse_verify_next.specs.Heres.{code_in, table_in, classes_in, spot_in, suited}
+use Rattle.verse_verify_parts.specs.declared.heres.Here.{Here}
+use Rattle.verse_verify_parts.specs.Heres.{code_in, table_in, classes_in, spot_in, suited}
 use Rattle.verse_verify_tasks.specs.Arms.{all_from, each_from, size, label_at, label_suits, is_arm, may_begin, sort_there, arm_fits, on_arm}
 use Rattle.verse_verify_tasks.specs.Arms.{are_arms, do_begin, do_fit, do_fill, labels_in, grouped_in, group_ends, group_goes}
 use Rattle.verse_verify_tasks.proofs.Tests.{spot_is, second, first}

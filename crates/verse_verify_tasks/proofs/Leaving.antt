@@ -8,8 +8,8 @@ use Rattle.verse_verify_faults.specs.Spots.{Spot, spot_at}
 use Rattle.verse_verify_faults.specs.Stepping.{Goes, block_at, spot_locals}
 use Rattle.verse_verify_notes.specs.declared.notes.Spot.{Spot as Noted}
 use Rattle.verse_verify_notes.specs.View.{spot_of}
-use Rattle.verse_verify_next.specs.declared.heres.Here.{Here}
-use Rattle.verse_verify_next.specs.Heres.{code_in, table_in, spot_in, suited}
+use Rattle.verse_verify_parts.specs.declared.heres.Here.{Here}
+use Rattle.verse_verify_parts.specs.Heres.{code_in, table_in, spot_in, suited}
 use Rattle.verse_verify_tasks.specs.Blocks.{goes_behind, leaves_in}
 use Rattle.verse_verify_tasks.proofs.Grouping.{both_suit}
 

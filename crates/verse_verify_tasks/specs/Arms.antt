@@ -12,8 +12,8 @@ use Rattle.verse_verify_faults.specs.Stepping.{Goes, arm_labels, with_label, arm
 use Rattle.verse_verify_faults.specs.Stepping.{arms_at, grouped, to}
 use Rattle.verse_verify_faults.specs.Faults.{is_none}
 use Rattle.verse_verify_notes.specs.declared.sorts.Sort.{Sort as Kept}
-use Rattle.verse_verify_next.specs.declared.heres.Here.{Here}
-use Rattle.verse_verify_next.specs.Heres.{code_in, table_in, classes_in, spot_in, operands, suited}
+use Rattle.verse_verify_parts.specs.declared.heres.Here.{Here}
+use Rattle.verse_verify_parts.specs.Heres.{code_in, table_in, classes_in, spot_in, operands, suited}
 
 -- of so many numbers from one on
 abbrev pub all_from : (ℕ → Bool) → ℕ → ℕ → Bool

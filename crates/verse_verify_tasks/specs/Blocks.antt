@@ -2,8 +2,8 @@
 use Rattle.std.specs.Prelude.{ℕ, List}
 use Rattle.verse_sorts.specs.Sorts.{Sort}
 use Rattle.verse_verify_faults.specs.Stepping.{Goes, behind, leaves}
-use Rattle.verse_verify_next.specs.declared.heres.Here.{Here}
-use Rattle.verse_verify_next.specs.Heres.{code_in, table_in, spot_in}
+use Rattle.verse_verify_parts.specs.declared.heres.Here.{Here}
+use Rattle.verse_verify_parts.specs.Heres.{code_in, table_in, spot_in}
 
 module _ (h : Here) where
   -- behind it, where it leaves these locals, and these blocks deferred

@@ -9,10 +9,10 @@ ghost use Rattle.verse_verify_notes.specs.View.{sort_of, sorts_of};
 ghost use Rattle.verse_verify_tasks.specs.Arms as a;
 
 use verse_code::operations::Op;
-use verse_verify_next::heres::Here;
 use verse_verify_next::leading::does_arm_begin;
 use verse_verify_notes::sorts::Sort;
 use verse_verify_operands::asking::is_fit;
+use verse_verify_parts::heres::Here;
 use verse_verify_tables::numbers::is_same_number;
 
 /// The index of the operation behind the next one by so many.

@@ -2,19 +2,19 @@
 
 ghost use Rattle.std.specs.Prelude.{◌≡◌, ◌≤◌, ◌∷◌, [], false, length, suc};
 ghost use Rattle.verse_code.specs.declared.operations.Op.TheVariants as o;
-ghost use Rattle.verse_verify_next.specs.Heres.{spot_in, suited};
+ghost use Rattle.verse_verify_parts.specs.Heres.{spot_in, suited};
 ghost use Rattle.verse_verify_next.specs.Leads.{goes_deferring, block_begins};
 ghost use Rattle.verse_verify_operands.specs.Finds.{broken};
 ghost use Rattle.verse_verify_tasks.specs.Blocks.{goes_behind, leaves_in};
 ghost use Rattle.verse_verify_notes.specs.View.{sorts_of};
 
 use verse_verify_keeps::settling::settle;
-use verse_verify_next::heres::Here;
 use verse_verify_next::leading::{
     does_block_begin, does_lead_behind_block, does_lead_left, may_block_begin_again,
 };
-use verse_verify_next::operands::above;
 use verse_verify_notes::sorts::Sort;
+use verse_verify_parts::heres::Here;
+use verse_verify_parts::operands::above;
 use verse_verify_tables::numbers::is_same_number;
 
 /// How many blocks are deferred here.
@@ -29,7 +29,7 @@ fn defers_count(here: &Here) -> usize
 /// suits.
 fn does_defer(here: &Here, label: u32, st: &[Sort]) -> bool
     ensures { result ≡ suited here.now (block_begins here.now (suc here.now.index)
-        (length here.now.spot.now.defers.items) here.now.spot.now.locals.items
+        (length here.now.spot.now.defers.items) here.now.spot.now.locals.value.items
         ∷ goes_deferring here.now label (suc here.now.index ∷ here.now.spot.now.defers.items)
         st.now ∷ []) }
 {

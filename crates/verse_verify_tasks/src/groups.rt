@@ -7,22 +7,22 @@ ghost use Rattle.verse_verify_faults.specs.Spots.{beneath};
 ghost use Rattle.verse_verify_faults.specs.Stepping as t;
 ghost use Rattle.verse_verify_faults.specs.Faults.{holds, each_holds};
 ghost use Rattle.verse_verify_notes.specs.View.{sort_of};
-ghost use Rattle.verse_verify_next.specs.Heres.{spot_in, classes_in, operands, suited};
-ghost use Rattle.verse_verify_next.specs.declared.mades.Made.TheVariants as m;
+ghost use Rattle.verse_verify_parts.specs.Heres.{spot_in, classes_in, operands, suited};
+ghost use Rattle.verse_verify_parts.specs.declared.mades.Made.TheVariants as m;
 ghost use Rattle.verse_verify_next.specs.Leads.{arm_begins, goes_to};
 ghost use Rattle.verse_verify_operands.specs.Finds.{broken};
 ghost use Rattle.verse_verify_tasks.specs.Arms.{do_begin, grouped_in, group_ends, group_goes};
 
 use crate::arms::{are_arms, behind, do_begin, do_fill_tuple, do_fit};
 use verse_verify_keeps::settling::settle;
-use verse_verify_next::heres::Here;
 use verse_verify_next::leading::{does_arm_begin, does_lead_to, is_placed};
-use verse_verify_next::mades::Made;
-use verse_verify_next::operands::pop;
-use verse_verify_next::parts::are_same_marks;
-use verse_verify_next::stacks::do_operands_hold;
 use verse_verify_notes::sorts::Sort;
 use verse_verify_operands::asking::is_fit;
+use verse_verify_parts::heres::Here;
+use verse_verify_parts::mades::Made;
+use verse_verify_parts::operands::pop;
+use verse_verify_parts::parts::are_same_marks;
+use verse_verify_parts::stacks::do_operands_hold;
 use verse_verify_sorts::fitting::does_each_fit;
 
 /// Whether what the arms of a Group give together may be noted as a sort, where they may begin.

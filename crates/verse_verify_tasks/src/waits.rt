@@ -3,18 +3,18 @@
 ghost use Rattle.std.specs.Prelude.{◌≡◌, ◌∷◌, []};
 ghost use Rattle.verse_code.specs.declared.operations.Op.TheVariants as o;
 ghost use Rattle.verse_verify_faults.specs.Stepping.{goes_on};
-ghost use Rattle.verse_verify_next.specs.Heres.{code_in, table_in, spot_in, operands, rule_by};
-ghost use Rattle.verse_verify_next.specs.Mades.{made_of};
+ghost use Rattle.verse_verify_parts.specs.Heres.{code_in, table_in, spot_in, operands, rule_by};
+ghost use Rattle.verse_verify_parts.specs.Mades.{made_of};
 ghost use Rattle.verse_verify_operands.specs.Finds.{broken};
 
 use verse_verify_keeps::settling::settle;
-use verse_verify_next::heres::Here;
 use verse_verify_next::leading::does_lead_to;
-use verse_verify_next::mades::Made;
-use verse_verify_next::operands::pop;
 use verse_verify_notes::sorts::Sort;
 use verse_verify_operands::asking::may_send;
 use verse_verify_operands::finding::{heard_of, task_of};
+use verse_verify_parts::heres::Here;
+use verse_verify_parts::mades::Made;
+use verse_verify_parts::operands::pop;
 
 /// The rule that is broken by an operation that pushes this on these operands and goes on behind
 /// it.

@@ -5,12 +5,12 @@ ghost use Rattle.verse_code.specs.declared.operations.Op.TheVariants as o;
 ghost use Rattle.verse_verify_operands.specs.Finds.{broken};
 
 use crate::pushing::{FEW, SORT, pushes};
-use verse_verify_next::heres::Here;
-use verse_verify_next::mades::Made;
-use verse_verify_next::operands::pop;
 use verse_verify_notes::sorts::Sort;
 use verse_verify_operands::asking::{are_keys, are_shown, is_counted, is_text};
 use verse_verify_operands::finding::{item_in, part_at, part_of_list, pop_many, queried};
+use verse_verify_parts::heres::Here;
+use verse_verify_parts::mades::Made;
+use verse_verify_parts::operands::pop;
 
 /// The rule that Concat breaks.
 pub fn concat(here: &Here, place: u32, st: &[Sort]) -> Option<u8>

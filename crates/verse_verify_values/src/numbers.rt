@@ -6,11 +6,11 @@ ghost use Rattle.verse_verify_operands.specs.Finds.{broken};
 ghost use Rattle.verse_verify_values.specs.Rows.{counting};
 
 use crate::pushing::{FEW, SORT, pushes};
-use verse_verify_next::heres::Here;
-use verse_verify_next::mades::Made;
-use verse_verify_next::operands::pop;
 use verse_verify_notes::sorts::Sort;
 use verse_verify_operands::asking::is_int;
+use verse_verify_parts::heres::Here;
+use verse_verify_parts::mades::Made;
+use verse_verify_parts::operands::pop;
 
 /// The rule that an operation breaks which makes an int of two: Add, Sub, Mul, Floor, Ceil, Mod,
 /// Lt, Le, Gt and Ge.

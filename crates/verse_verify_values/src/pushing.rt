@@ -2,16 +2,16 @@
 
 ghost use Rattle.std.specs.Prelude.{◌≡◌};
 ghost use Rattle.verse_code.specs.declared.operations.Op.TheVariants as o;
-ghost use Rattle.verse_verify_next.specs.Mades.{pushed};
+ghost use Rattle.verse_verify_parts.specs.Mades.{pushed};
 ghost use Rattle.verse_verify_operands.specs.Finds.{broken};
 ghost use Rattle.verse_verify_values.specs.Rows.{pushing};
 
 use verse_verify_keeps::settling::settle;
-use verse_verify_next::heres::Here;
 use verse_verify_next::leading::does_lead_to;
-use verse_verify_next::mades::Made;
-use verse_verify_next::operands::pop;
 use verse_verify_notes::sorts::Sort;
+use verse_verify_parts::heres::Here;
+use verse_verify_parts::mades::Made;
+use verse_verify_parts::operands::pop;
 
 /// Too few operands.
 pub const FEW: u8 = 4;

@@ -3,7 +3,6 @@ use Rattle.std.proofs.Common.{◌≡◌, ℕ, ◌<◌, List, [], ◌∷◌, ◌+
 use Rattle.std.proofs.Common.{append_assoc}
 use Rattle.std.proofs.lemmas.List.{append-nil, reverse-reverse}
 use Rattle.std.specs.Prelude.{false, reverse}
-use Rattle.std.specs.Global.{Vec}
 use Rattle.verse_base.proofs.Facts.{as_long}
 use Rattle.verse_image.specs.Format.{Spelled}
 use Rattle.verse_image.specs.Writing.{Writes}
@@ -28,10 +27,11 @@ written_number n old new lt w =
 pub both_written : (p q old a new : List ℕ) → a ≡ old ++ p → new ≡ a ++ q → new ≡ old ++ (p ++ q)
 both_written p q old a new one two = two ∙ ap (λ (w : List ℕ). w ++ q) one ∙ append_assoc old p q
 
-tuple_seen : (parts : Vec Made) → sort_of (made.Tuple parts) ≡ s.tuple (kept.sorts (sorts_of parts.items))
+tuple_seen : (parts : _) → sort_of (made.Tuple parts) ≡ s.tuple (kept.sorts (sorts_of parts.value.items))
 tuple_seen parts = search (rules, the_lemmas)
 
-pub is_tuple : (a : Made) (parts : Vec Made) → a ≡ made.Tuple parts → sort_of a ≡ s.tuple (kept.sorts (sorts_of parts.items))
+pub is_tuple : (a : Made) (parts : _) → a ≡ made.Tuple parts →
+    sort_of a ≡ s.tuple (kept.sorts (sorts_of parts.value.items))
 is_tuple a parts e = ap sort_of e ∙ tuple_seen parts
 
 -- a tuple: its tag, how many parts, and the parts

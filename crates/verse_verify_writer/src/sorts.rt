@@ -1,6 +1,6 @@
 //! Sorts are written.
 
-ghost use Rattle.std.specs.Prelude.{◌≡◌, ◌++◌, OnOk, option_map};
+ghost use Rattle.std.specs.Prelude.{◌≡◌, [], ◌∷◌, ◌++◌, IfSome, OnOk, option_map};
 ghost use Rattle.verse_verify_bytes.specs.Bytes.{each, counted, option, sort};
 ghost use Rattle.verse_verify_notes.specs.View.{sort_of, sorts_of};
 ghost use Rattle.verse_verify_writer.specs.Tags.{tag_of};
@@ -31,6 +31,24 @@ fn tag(value: &Sort) -> u8
         Sort::List(_) => 15,
         Sort::Map(_, _) => 16,
         Sort::Tuple(_) => 17,
+    }
+}
+
+/// The tag of a sort that has no parts and no number.
+fn plain_tag(value: &Sort) -> Option<u8>
+    ensures { IfSome result (λ t. sort (sort_of value.now) ≡ t ∷ []) }
+{
+    match value {
+        Sort::None => Some(0),
+        Sort::Any => Some(1),
+        Sort::Never => Some(2),
+        Sort::Unit => Some(3),
+        Sort::Nil => Some(4),
+        Sort::Int => Some(5),
+        Sort::Logic => Some(6),
+        Sort::Char => Some(7),
+        Sort::Span => Some(8),
+        _ => None,
     }
 }
 
@@ -74,7 +92,10 @@ fn push_parts(out: &mut Vec<u8>, parts: &[Sort]) -> Result<(), Memory>
     ensures { OnOk result (out.new.items ≡ out.old.items ++ each sort (sorts_of parts.now)) }
 {
     'parts: for part in parts {
-        push_sort(out, part)?;
+        match plain_tag(part) {
+            Some(tag) => push_byte(out, tag)?,
+            None => push_sort(out, part)?,
+        }
     }
     Ok(())
 }

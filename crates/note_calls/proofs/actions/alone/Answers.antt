@@ -10,7 +10,7 @@ use Rattle.lower_notes.specs.Applied.{finish, start}
 use Rattle.note_stretches.specs.Noted.{noted, walked}
 use Rattle.note_applied.proofs.Steps.{three_steps}
 use Rattle.note_parts.specs.Parts.{operands_walk}
-use Rattle.note_calls.proofs.Steps.{same_walked}
+use Rattle.note_members.proofs.Steps.{same_walked}
 use Rattle.note_calls.proofs.actions.alone.Goals as goal
 
 pub returns-clause-states : goal.returns-clause-states

@@ -10,8 +10,8 @@ use Rattle.note_sorts.specs.Tabled.{found_of}
 use Rattle.note_stretches.specs.Noted.{noted, walked}
 use Rattle.note_applied.proofs.Steps.{three_steps}
 use Rattle.note_parts.specs.Parts.{tree_walk}
-use Rattle.note_calls.specs.Calls.{indices_walk}
-use Rattle.note_calls.proofs.Steps.{same_walked}
+use Rattle.note_members.specs.Reads.{indices_walk}
+use Rattle.note_members.proofs.Steps.{same_walked}
 use Rattle.note_calls.proofs.actions.indexed.Goals as goal
 
 pub returns-clause-states : goal.returns-clause-states

@@ -5,7 +5,7 @@ use Rattle.lower_expr.specs.Locals.{scope_of}
 use Rattle.lower_calls.specs.Views.{object_of}
 use Rattle.note_stretches.specs.Noted.{noted}
 use Rattle.note_calls.specs.Calls.{object_walk, behind_walk}
-use Rattle.note_calls.proofs.Steps.{two_steps}
+use Rattle.note_members.proofs.Steps.{two_steps}
 use Rattle.note_calls.proofs.actions.of_object.Goals as goal
 
 pub returns-clause-states : goal.returns-clause-states

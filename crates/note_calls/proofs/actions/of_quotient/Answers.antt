@@ -8,7 +8,7 @@ use Rattle.note_stretches.specs.Noted.{noted}
 use Rattle.note_parts.specs.Parts.{no_place}
 use Rattle.note_calls.specs.Calls.{divided_walk}
 use Rattle.note_calls.proofs.Seen.{divided_is}
-use Rattle.note_calls.proofs.Steps.{two_steps, same_walked}
+use Rattle.note_members.proofs.Steps.{two_steps, same_walked}
 use Rattle.note_calls.proofs.actions.of_quotient.Goals as goal
 
 pub returns-clause-states : goal.returns-clause-states

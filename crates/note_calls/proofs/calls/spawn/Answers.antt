@@ -8,7 +8,7 @@ use Rattle.lower_calls.specs.Views.{applied_now, called_of, place_of}
 use Rattle.note_calls.specs.Calls.{spawned_walk}
 use Rattle.verse_tree.proofs.Shapes.{tree_is}
 use Rattle.note_calls.proofs.Seen.{spawned_is}
-use Rattle.note_calls.proofs.Steps.{same_walked}
+use Rattle.note_members.proofs.Steps.{same_walked}
 use Rattle.note_calls.proofs.calls.spawn.Goals as goal
 
 pub returns-in_ok-spawned-in-Some-clause-states : goal.returns-in_ok-spawned-in-Some-clause-states

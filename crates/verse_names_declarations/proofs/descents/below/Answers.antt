@@ -1,7 +1,7 @@
 use Rattle.std.proofs.Common.{◌≡◌, ◌<◌, ◌+◌, length, map, arith}
 use Rattle.std.proofs.lemmas.List.{length-map}
 use Rattle.verse_rules_types.specs.Types.{class_of, classes_of}
-use Rattle.verse_names_declarations.specs.Notes.{note_of}
+use Rattle.verse_names_tables.specs.Notes.{note_of}
 use Rattle.verse_names_declarations.proofs.Descending.{below_tells}
 use Rattle.verse_names_declarations.proofs.descents.below.Goals as goal
 

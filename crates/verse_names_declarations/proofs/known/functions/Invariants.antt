@@ -1,7 +1,7 @@
 use Rattle.std.proofs.Common.{◌≡◌, ◌++◌, drop, map}
-use Rattle.verse_names_declarations.specs.Views.{table_of}
-use Rattle.verse_names_declarations.specs.Functions.{function_of}
-use Rattle.verse_names_declarations.specs.Counting.{counted_of}
+use Rattle.verse_names_tables.specs.Views.{table_of}
+use Rattle.verse_names_tables.specs.Functions.{function_of}
+use Rattle.verse_names_tables.specs.Counting.{counted_of}
 use Rattle.verse_names_declarations.specs.Known.{functions}
 use Rattle.verse_names_declarations.proofs.known.functions.Given as goal
 

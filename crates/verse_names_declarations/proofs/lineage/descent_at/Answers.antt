@@ -1,6 +1,6 @@
 use Rattle.std.proofs.Common.{map}
 use Rattle.verse_rules_types.specs.Types.{classes_of}
-use Rattle.verse_names_declarations.specs.Notes.{note_of}
+use Rattle.verse_names_tables.specs.Notes.{note_of}
 use Rattle.verse_names_declarations.proofs.Descending.{traced_in}
 use Rattle.verse_names_declarations.proofs.lineage.descent_at.Goals as goal
 

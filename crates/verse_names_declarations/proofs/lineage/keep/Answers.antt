@@ -1,6 +1,6 @@
 use Rattle.std.proofs.Common.{◌<◌, length, map, arith}
 use Rattle.verse_rules_types.specs.Types.{classes_of}
-use Rattle.verse_names_declarations.specs.Notes.{note_of}
+use Rattle.verse_names_tables.specs.Notes.{note_of}
 use Rattle.verse_names_declarations.proofs.Descending.{set_traced}
 use Rattle.verse_names_declarations.proofs.lineage.keep.Goals as goal
 

@@ -1,6 +1,6 @@
 use Rattle.std.proofs.Common.{map}
 use Rattle.verse_rules_types.specs.Types.{classes_of}
-use Rattle.verse_names_declarations.specs.Notes.{note_of}
+use Rattle.verse_names_tables.specs.Notes.{note_of}
 use Rattle.verse_names_declarations.proofs.Descending.{all_told_ok}
 use Rattle.verse_names_declarations.proofs.members.all_members.Goals as goal
 

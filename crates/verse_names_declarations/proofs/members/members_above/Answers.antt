@@ -1,7 +1,7 @@
 use Rattle.std.proofs.Common.{map, ap, sym, ◌∙◌}
 use Rattle.verse_rules_types.specs.Types.{classes_of}
 use Rattle.verse_rules_types.specs.Fitting.{parent_of}
-use Rattle.verse_names_declarations.specs.Notes.{note_of}
+use Rattle.verse_names_tables.specs.Notes.{note_of}
 use Rattle.verse_names_declarations.proofs.Descending.{told_above_ok}
 use Rattle.verse_names_declarations.proofs.members.members_above.Goals as goal
 

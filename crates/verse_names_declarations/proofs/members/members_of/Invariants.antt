@@ -1,5 +1,5 @@
 use Rattle.std.proofs.Common.{◌≡◌, map, length}
-use Rattle.verse_names_declarations.specs.Notes.{note_of}
+use Rattle.verse_names_tables.specs.Notes.{note_of}
 use Rattle.verse_names_declarations.specs.Members.{with_notes, members_of, members_view}
 use Rattle.verse_names_declarations.proofs.members.members_of.Given as goal
 

@@ -1,7 +1,7 @@
 use Rattle.std.proofs.Common.{◌≡◌, [], drop, map}
 use Rattle.verse_tree.specs.ItemView.{member_of}
-use Rattle.verse_names_declarations.specs.Names.{call_all}
-use Rattle.verse_names_declarations.specs.Views.{roll_of}
+use Rattle.verse_names_tables.specs.Names.{call_all}
+use Rattle.verse_names_tables.specs.Views.{roll_of}
 use Rattle.verse_names_declarations.specs.Lines.{member_name}
 use Rattle.verse_names_declarations.proofs.members.names_of.Given as goal
 

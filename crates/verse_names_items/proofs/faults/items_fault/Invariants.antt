@@ -1,6 +1,6 @@
 use Rattle.std.proofs.Common.{◌≡◌, drop, map}
 use Rattle.verse_names_declarations.specs.Known.{known_of}
-use Rattle.verse_names_declarations.specs.Counting.{counted_of}
+use Rattle.verse_names_tables.specs.Counting.{counted_of}
 use Rattle.verse_names_items.specs.Faults.{items_fault}
 use Rattle.verse_names_items.proofs.faults.items_fault.Given as goal
 

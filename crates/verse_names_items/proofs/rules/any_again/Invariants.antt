@@ -1,6 +1,6 @@
 use Rattle.std.proofs.Common.{◌≡◌, [], drop}
-use Rattle.verse_names_declarations.specs.Names.{any_again}
-use Rattle.verse_names_declarations.specs.Views.{roll_of}
+use Rattle.verse_names_tables.specs.Names.{any_again}
+use Rattle.verse_names_tables.specs.Views.{roll_of}
 use Rattle.verse_names_items.proofs.rules.any_again.Given as goal
 
 -- what is left decides

@@ -1,6 +1,6 @@
 use Rattle.std.specs.Prelude.{map}
 use Rattle.verse_rules_types.specs.Types.{classes_of}
-use Rattle.verse_names_declarations.specs.Notes.{note_of}
+use Rattle.verse_names_tables.specs.Notes.{note_of}
 use Rattle.verse_names_items.proofs.Straight.{no_circle}
 use Rattle.verse_names_items.proofs.rules.is_circular.Goals as goal
 

@@ -1,8 +1,8 @@
 use Rattle.std.proofs.Common.{◌++◌, map, ap, sym, ◌∙◌, append_assoc}
 use Rattle.std.specs.Prelude.{slice_get}
 use Rattle.verse_rules_types.specs.Types.{field_of}
-use Rattle.verse_names_declarations.specs.Views.{table_of}
-use Rattle.verse_names_declarations.specs.Known.{note_of}
+use Rattle.verse_names_tables.specs.Views.{table_of}
+use Rattle.verse_names_tables.specs.Notes.{note_of}
 use Rattle.verse_names_items.specs.Tables.{fields_of, own_fields, note_members}
 use Rattle.verse_names_items.proofs.Fields.{last_fields}
 use Rattle.verse_names_items.proofs.tables.fields_of.Goals as goal

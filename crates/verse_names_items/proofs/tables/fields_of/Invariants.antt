@@ -1,7 +1,7 @@
 use Rattle.std.proofs.Common.{◌≡◌, ◌++◌, map, length}
 use Rattle.verse_rules_types.specs.Types.{field_of}
-use Rattle.verse_names_declarations.specs.Views.{table_of}
-use Rattle.verse_names_declarations.specs.Known.{note_of}
+use Rattle.verse_names_tables.specs.Views.{table_of}
+use Rattle.verse_names_tables.specs.Notes.{note_of}
 use Rattle.verse_names_items.specs.Tables.{fields_of}
 use Rattle.verse_names_items.proofs.tables.fields_of.Given as goal
 

@@ -1,7 +1,7 @@
 use Rattle.std.proofs.Common.{◌≡◌, ◌++◌, drop, map}
 use Rattle.verse_tree.specs.ItemView.{member_of}
 use Rattle.verse_rules_types.specs.Types.{field_of}
-use Rattle.verse_names_declarations.specs.Views.{table_of}
+use Rattle.verse_names_tables.specs.Views.{table_of}
 use Rattle.verse_names_items.specs.Tables.{own_fields}
 use Rattle.verse_names_items.proofs.tables.with_fields.Given as goal
 

@@ -2,8 +2,9 @@ use Rattle.std.specs.Prelude.{◌++◌, map, slice_get}
 use Rattle.std.proofs.Common.{◌∙◌, ap}
 use Rattle.std.proofs.lemmas.Result.{IfOk-weaker}
 use Rattle.verse_rules_types.specs.Types.{field_of}
-use Rattle.verse_names_declarations.specs.Views.{table_of}
-use Rattle.verse_names_declarations.specs.Known.{note_of, known_of}
+use Rattle.verse_names_tables.specs.Views.{table_of}
+use Rattle.verse_names_tables.specs.Notes.{note_of}
+use Rattle.verse_names_declarations.specs.Known.{known_of}
 use Rattle.verse_names_items.specs.Tables as tables
 use Rattle.verse_names_items.proofs.Making.{own_told}
 use Rattle.verse_names_items.proofs.tables.with_own.Goals as goal

@@ -1,5 +1,5 @@
 use Rattle.std.proofs.Common.{◌≡◌, map, drop}
-use Rattle.verse_names_declarations.specs.Counting.{counted_of}
+use Rattle.verse_names_tables.specs.Counting.{counted_of}
 use Rattle.verse_names_declarations.specs.Known.{known_of}
 use Rattle.verse_names_scopes.specs.Scopes.{through_items}
 use Rattle.verse_names_scopes.specs.Naming.{noted, cut_back}

@@ -1,7 +1,7 @@
 use Rattle.std.proofs.Common.{◌≡◌, [], map, drop}
 use Rattle.verse_tree.specs.View.{given_of, givens}
-use Rattle.verse_names_declarations.specs.Names.{any_again}
-use Rattle.verse_names_declarations.specs.Views.{roll_of}
+use Rattle.verse_names_tables.specs.Names.{any_again}
+use Rattle.verse_names_tables.specs.Views.{roll_of}
 use Rattle.verse_names_scopes.specs.Subjects.{given_names}
 use Rattle.verse_names_scopes.proofs.naming.is_given_twice.Given as goal
 

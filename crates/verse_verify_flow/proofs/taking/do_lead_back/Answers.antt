@@ -1,6 +1,6 @@
 use Rattle.std.proofs.Common.{◌≡◌, [], ◌∷◌, suc, ap, ◌∙◌}
 use Rattle.std.specs.Prelude.{None}
-use Rattle.verse_verify_next.specs.Heres.{suited}
+use Rattle.verse_verify_parts.specs.Heres.{suited}
 use Rattle.verse_verify_next.specs.Leads.{goes_to, goes_written}
 use Rattle.verse_verify_flow.proofs.Both.{first_no}
 use Rattle.verse_verify_flow.proofs.taking.do_lead_back.Goals as goal

@@ -4,7 +4,7 @@ use Rattle.verse_sorts.specs.Typing.{at}
 use Rattle.verse_verify_faults.specs.Stepping as t
 use Rattle.verse_verify_notes.specs.declared.sorts.Sort.{Sort}
 use Rattle.verse_verify_notes.specs.View.{sort_of}
-use Rattle.verse_verify_next.specs.Heres.{classes_in, spot_in, operands, rule_by}
+use Rattle.verse_verify_parts.specs.Heres.{classes_in, spot_in, operands, rule_by}
 use Rattle.verse_verify_operands.specs.Finds.{writes_of}
 use Rattle.verse_verify_flow.proofs.Taken.{sort_there, next, no_number, takes_this}
 use Rattle.verse_verify_flow.proofs.taking.take_rule.Goals as goal

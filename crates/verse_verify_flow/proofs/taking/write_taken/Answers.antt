@@ -1,5 +1,5 @@
 use Rattle.std.proofs.Common.{◌+◌, sym, ap, ◌∙◌, arith}
-use Rattle.verse_verify_next.specs.Heres.{operands, rule_by}
+use Rattle.verse_verify_parts.specs.Heres.{operands, rule_by}
 use Rattle.verse_verify_flow.proofs.Written.{taken_past, taken_far, three_rule}
 use Rattle.verse_verify_flow.proofs.taking.write_taken.Goals as goal
 

@@ -1,7 +1,7 @@
 use Rattle.std.proofs.Common.{◌≡◌, ◌+◌, length}
 use Rattle.verse_verify_faults.specs.Faults.{ready}
 use Rattle.verse_verify_notes.specs.View.{sorts_of}
-use Rattle.verse_verify_next.specs.Heres.{code_in, table_in, spot_in}
+use Rattle.verse_verify_parts.specs.Heres.{code_in, table_in, spot_in}
 use Rattle.verse_verify_keeps.proofs.blocks.are_ready.Given as goal
 
 -- what is left gives the answer

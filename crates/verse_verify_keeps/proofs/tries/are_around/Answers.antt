@@ -1,8 +1,8 @@
 use Rattle.std.proofs.Common.{◌≡◌, ◌+◌, drop, true, sym, ap, ◌∙◌}
 use Rattle.std.specs.Prelude.{◌&&◌, Some, slice_get}
 use Rattle.verse_verify_faults.specs.Faults.{is_around, all_around}
-use Rattle.verse_verify_next.specs.Heres.{code_in, table_in, names_in}
-use Rattle.verse_verify_next.proofs.Naming.{from_name}
+use Rattle.verse_verify_parts.specs.Heres.{code_in, table_in, names_in}
+use Rattle.verse_verify_parts.proofs.Naming.{from_name}
 use Rattle.verse_verify_keeps.proofs.tries.are_around.Goals as goal
 
 pub names-preserved : goal.names-preserved

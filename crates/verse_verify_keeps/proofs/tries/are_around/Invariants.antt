@@ -1,6 +1,6 @@
 use Rattle.std.proofs.Common.{◌≡◌, drop}
 use Rattle.verse_verify_faults.specs.Faults.{all_around}
-use Rattle.verse_verify_next.specs.Heres.{code_in, table_in, names_in}
+use Rattle.verse_verify_parts.specs.Heres.{code_in, table_in, names_in}
 use Rattle.verse_verify_keeps.proofs.tries.are_around.Given as goal
 
 -- what is left gives the answer

@@ -2,7 +2,7 @@ use Rattle.std.proofs.Common.{◌≡◌, suc, ◌+◌, true, sym, ap, ◌∙◌,
 use Rattle.std.specs.Prelude.{not, slice_get}
 use Rattle.verse_code_machine.specs.Acts.{label_of}
 use Rattle.verse_verify_faults.specs.Faults.{is_none}
-use Rattle.verse_verify_next.specs.Heres.{code_in, table_in}
+use Rattle.verse_verify_parts.specs.Heres.{code_in, table_in}
 use Rattle.verse_verify_keeps.proofs.Arms.{further}
 use Rattle.verse_verify_keeps.proofs.waits.are_arms.Goals as goal
 

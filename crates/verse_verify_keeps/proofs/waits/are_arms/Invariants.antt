@@ -1,6 +1,6 @@
 use Rattle.std.proofs.Common.{◌≡◌, suc, ◌+◌, ◌-◌}
 use Rattle.verse_verify_faults.specs.Faults.{are_arms}
-use Rattle.verse_verify_next.specs.Heres.{code_in, table_in}
+use Rattle.verse_verify_parts.specs.Heres.{code_in, table_in}
 use Rattle.verse_verify_keeps.proofs.waits.are_arms.Given as goal
 
 -- what is left gives the answer

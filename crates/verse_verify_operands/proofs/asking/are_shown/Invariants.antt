@@ -1,7 +1,7 @@
 use Rattle.std.proofs.Common.{◌≡◌, drop}
 use Rattle.verse_verify_faults.specs.Stepping.{all_shown}
 use Rattle.verse_verify_notes.specs.View.{sorts_of}
-use Rattle.verse_verify_next.specs.Heres.{classes_in}
+use Rattle.verse_verify_parts.specs.Heres.{classes_in}
 use Rattle.verse_verify_operands.proofs.asking.are_shown.Given as goal
 
 -- what is left gives the answer

@@ -2,7 +2,7 @@ use Rattle.std.proofs.Common.{◌≡◌, drop}
 use Rattle.std.specs.Prelude.{Some}
 use Rattle.verse_verify_faults.specs.Stepping.{at_path}
 use Rattle.verse_verify_notes.specs.View.{sort_of, sorts_of}
-use Rattle.verse_verify_next.specs.Heres.{classes_in}
+use Rattle.verse_verify_parts.specs.Heres.{classes_in}
 use Rattle.verse_verify_operands.proofs.finding.part_at_path.Given as goal
 
 -- what is left leads to the same part

@@ -1,6 +1,6 @@
 use Rattle.std.proofs.Common.{◌<◌, ◌≤◌, length, sym, ◌∙◌, arith}
 use Rattle.verse_verify_faults.specs.Faults.{pops}
-use Rattle.verse_verify_next.specs.Heres.{code_in, table_in, spot_in}
+use Rattle.verse_verify_parts.specs.Heres.{code_in, table_in, spot_in}
 use Rattle.verse_verify_pass.proofs.Firsts.{lacks_operands, has_operands}
 use Rattle.verse_verify_pass.proofs.states.fault_of.Goals as goal
 

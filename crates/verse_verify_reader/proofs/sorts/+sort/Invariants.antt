@@ -11,8 +11,8 @@ decreases-sort_part l = 8 * l.levels
 abbrev pub decreases-sort_of_tag : goal.decreases-sort_of_tag
 decreases-sort_of_tag l = 8 * l.levels + 4
 
-abbrev pub decreases-boxed : goal.decreases-boxed
-decreases-boxed l = 8 * l.levels + 1
+abbrev pub decreases-shared : goal.decreases-shared
+decreases-shared l = 8 * l.levels + 1
 
 abbrev pub decreases-var_sort : goal.decreases-var_sort
 decreases-var_sort l = 8 * l.levels + 2

@@ -1,7 +1,9 @@
 use Rattle.std.proofs.Common.{◌≡◌, ◌+◌, ◌∷◌, [], length, true, false, sym, ap, ◌∙◌, arith}
+use Rattle.std.specs.Global.{Vec}
 use Rattle.verse_meaning_state.specs.Waits.{eqn}
+use Rattle.verse_verify_notes.specs.declared.sorts.Sort.{Sort}
 use Rattle.verse_verify_notes.specs.View.{sorts_of, spot_of}
-use Rattle.verse_verify_next.specs.Heres.{spot_in, suited}
+use Rattle.verse_verify_parts.specs.Heres.{spot_in, suited}
 use Rattle.verse_verify_tasks.specs.Blocks.{leaves_in}
 use Rattle.verse_verify_tasks.proofs.Leaving.{leave_none, leave_at, leave_stops, leave_misses, leave_further, not_found, is_found}
 use Rattle.verse_verify_tasks.proofs.blocks.does_leave.Goals as goal
@@ -47,7 +49,8 @@ defers-preserved c =
     let is = c.in-Some.ensures.cases.0 in
     let found = is_found c.spot_at.result c.in-Some-spot_at.other _ c.spot_at.ensures c.in-Some-spot_at.is in
     let no : eqn c.args.count ((spot_in h).under + length rest) ≡ false = sym c.is_same_number.ensures ∙ c.if-is_same_number.false in (
-      ap (λ ks. suited h (leaves_in h c.args.count (sorts_of ks) c.in-Some.more.now)) c.as_slice-locals-in-defers.ensures.value ∙
+      ap (λ ks. suited h (leaves_in h c.args.count (sorts_of ks) c.in-Some.more.now))
+          (c.as_slice-locals-in-defers.ensures.value ∙ ap (λ (v : Vec Sort). v.items) c.deref-in-defers.ensures) ∙
           leave_further h c.args.count ls rest c.in-Some.entry.now c.in-Some.more.now other is no found
           (sym c.does_block_begin.ensures ∙ c.if-not-does_block_begin.false) ∙ c.defers.invariant.0,
       omega (arith, ap length is, c.defers.invariant.1),

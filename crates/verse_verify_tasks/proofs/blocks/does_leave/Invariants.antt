@@ -1,6 +1,6 @@
 use Rattle.std.proofs.Common.{◌≡◌, ◌+◌, length}
 use Rattle.verse_verify_notes.specs.View.{sorts_of}
-use Rattle.verse_verify_next.specs.Heres.{spot_in, suited}
+use Rattle.verse_verify_parts.specs.Heres.{spot_in, suited}
 use Rattle.verse_verify_tasks.specs.Blocks.{leaves_in}
 use Rattle.verse_verify_tasks.proofs.blocks.does_leave.Given as goal
 

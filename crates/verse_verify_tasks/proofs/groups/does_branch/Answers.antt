@@ -1,7 +1,7 @@
 use Rattle.std.proofs.Common.{◌≡◌, ◌∷◌, [], suc, sym, ap, ◌∙◌}
 use Rattle.std.specs.Prelude.{Some}
-use Rattle.verse_verify_next.specs.declared.mades.Made.TheVariants as m
-use Rattle.verse_verify_next.specs.Heres.{suited}
+use Rattle.verse_verify_parts.specs.declared.mades.Made.TheVariants as m
+use Rattle.verse_verify_parts.specs.Heres.{suited}
 use Rattle.verse_verify_next.specs.Leads.{arm_begins, goes_to}
 use Rattle.verse_verify_tasks.proofs.Grouping.{first_fails, second_tells}
 use Rattle.verse_verify_tasks.proofs.groups.does_branch.Goals as goal

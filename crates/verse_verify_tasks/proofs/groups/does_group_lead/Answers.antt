@@ -1,6 +1,6 @@
 use Rattle.std.proofs.Common.{◌≡◌, ◌∷◌, [], true, false, sym, ap, ◌∙◌}
 use Rattle.std.specs.Prelude.{◌&&◌}
-use Rattle.verse_verify_next.specs.Heres.{suited}
+use Rattle.verse_verify_parts.specs.Heres.{suited}
 use Rattle.verse_verify_tasks.specs.Arms.{do_begin, group_ends}
 use Rattle.verse_verify_tasks.proofs.Grouping.{group_by}
 use Rattle.verse_verify_tasks.proofs.groups.does_group_lead.Goals as goal

@@ -1,6 +1,6 @@
 use Rattle.std.proofs.Common.{ap, sym, ◌∙◌}
-use Rattle.verse_names_declarations.specs.Names.{Table}
-use Rattle.verse_names_declarations.specs.Views.{table_of}
+use Rattle.verse_names_tables.specs.Names.{Table}
+use Rattle.verse_names_tables.specs.Views.{table_of}
 use Rattle.verse_names_scopes.specs.Naming as n
 use Rattle.verse_names_scopes.specs.Views.{world_of}
 use Rattle.verse_names_scopes.proofs.Adding.{put_local}

@@ -1,5 +1,5 @@
 use Rattle.std.proofs.Common.{◌∙◌, ap, sym}
-use Rattle.verse_names_declarations.specs.Names.{look}
+use Rattle.verse_names_tables.specs.Names.{look}
 use Rattle.verse_names_declarations.specs.Lines.{members_view}
 use Rattle.verse_names_scopes.specs.Views.{seen_members}
 use Rattle.verse_names_scopes.proofs.Bare.{bare_is}

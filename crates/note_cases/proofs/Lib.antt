@@ -1,0 +1,4 @@
+mod OpenEnds
+mod NoPatterns
+mod RuleSets
+mod Arming

@@ -1,0 +1,5 @@
+mod OpenTurns
+mod Steps
+mod Clauses
+mod Claused
+mod Leveled

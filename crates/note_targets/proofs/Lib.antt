@@ -1,0 +1,3 @@
+mod Halves
+mod Levels
+mod Storing

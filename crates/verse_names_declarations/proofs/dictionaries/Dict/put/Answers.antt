@@ -1,7 +1,0 @@
-use Rattle.std.proofs.Common.{ap, ◌∙◌, map}
-use Rattle.verse_names_declarations.specs.Views.{entry_of}
-use Rattle.verse_names_declarations.proofs.Looking.{put_map}
-use Rattle.verse_names_declarations.proofs.dictionaries.Dict.put.Goals as goal
-
-pub returns : goal.returns
-returns c = ap (map entry_of) c.in_ok-insert.ensures.entries ∙ put_map c.args.name c.args.to c.args.self.now.map.entries

@@ -1,7 +1,0 @@
-use Rattle.std.proofs.Common.{◌≡◌, ap, ◌∙◌}
-use Rattle.verse_names_declarations.specs.Names.{place}
-use Rattle.verse_names_declarations.proofs.Sharing.{place_told}
-use Rattle.verse_names_declarations.proofs.shared_names.SharedNames.place.Goals as goal
-
-pub returns : goal.returns
-returns c = c.place_told.ensures ∙ place_told _ _ _ _ _ c.self.invariant.0 c.self.invariant.1 ∙ ap (place c.args.name.now) c.self.view_is

@@ -1,0 +1,4 @@
+pub mod Looking
+pub mod Sharing
+pub mod Lists
+pub mod Spelling

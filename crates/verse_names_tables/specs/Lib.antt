@@ -1,0 +1,9 @@
+pub mod Names
+pub mod Views
+pub mod Words
+pub mod Functions
+pub mod Counting
+pub mod Naming
+pub mod Notes
+pub mod Indexing
+pub mod Shared

@@ -1,0 +1,4 @@
+pub mod Lists
+pub mod Locals
+pub mod Naming
+pub mod RuleSets

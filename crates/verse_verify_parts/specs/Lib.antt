@@ -1,0 +1,2 @@
+pub mod Heres
+pub mod Mades
