@@ -95,12 +95,12 @@ abbrev pub lacks_main : Subject → Bool
 lacks_main (program is) = not (has_main is)
 lacks_main s = false
 
-abbrev pub is_int : Ty → Bool
-is_int int = true
-is_int t = false
+abbrev pub is_int_itself : Ty → Bool
+is_int_itself int = true
+is_int_itself t = false
 
 abbrev pub is_ints : Ty → Bool
-is_ints (array t) = is_int t
+is_ints (array t) = is_int_itself t
 is_ints t = false
 
 abbrev pub is_void : Ty → Bool

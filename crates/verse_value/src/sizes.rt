@@ -2,11 +2,11 @@
 
 ghost use Rattle.std.specs.Prelude.{◌≡◌, ◌+◌, min};
 ghost use Rattle.verse_value.specs.View.{val_of, vals_of};
-ghost use Rattle.verse_value.specs.Val.{vals, some, array, mapping, tuple};
+ghost use Rattle.verse_value.specs.Val.{vals};
 ghost use Rattle.verse_value.specs.Sizes.{weight_of, weights, levels_of, most_levels, fits};
 
 use crate::kept::above;
-use crate::values::{Entries, Value, size_of_all};
+use crate::values::{Value, size_of_all};
 
 /// The greatest weight of a value of a run.
 pub const MOST_WEIGHT: u64 = 4000000;
@@ -68,30 +68,4 @@ pub fn is_fit(v: &Value) -> bool
 {
     let size = v.size();
     size.weight <= MOST_WEIGHT && (size.levels <= MOST_LEVELS || levels(v) <= MOST_LEVELS)
-}
-
-/// Whether an array or a tuple of these parts is a value of a run.
-pub fn list_fits(parts: &[Value]) -> bool
-    ensures array { result ≡ fits (array (vals (vals_of parts.now))) }
-    ensures tuple { result ≡ fits (tuple (vals (vals_of parts.now))) }
-{
-    let size = above(size_of_all(parts));
-    size.weight <= MOST_WEIGHT && (size.levels <= MOST_LEVELS || most_of(parts) < MOST_LEVELS)
-}
-
-/// Whether a map with these entries is a value of a run.
-pub fn map_fits(entries: &Entries) -> bool
-    ensures { result ≡ fits (mapping entries.now) }
-{
-    let size = entries.size();
-    size.weight <= MOST_WEIGHT
-        && (size.levels <= MOST_LEVELS || most_of(entries.values()) < MOST_LEVELS)
-}
-
-/// Whether an option with this value is a value of a run.
-pub fn option_fits(part: &Value) -> bool
-    ensures { result ≡ fits (some (val_of part.now)) }
-{
-    let size = above(part.size());
-    size.weight <= MOST_WEIGHT && (size.levels <= MOST_LEVELS || levels(part) < MOST_LEVELS)
 }

@@ -4,8 +4,8 @@
 //! To be read in this order, in `proofs/`: `Fitting`, sorts that fit pass the tests; `Leading`,
 //! where an operation leads; `Holding`, what is asked of Trys and blocks; `Steps`, what it takes
 //! that an operation breaks no rule; `Values`, `Parts`, `Writes`, `Calls`, `Tasks`, `Marks` and
-//! `Blocks`, the operations; `Every`, all of them; `Tables`, classes, functions, entries and the
-//! whole; `Ranks`, heights of classes of any kind.
+//! `Blocks`, the operations; `Every`, all of them; `Tables`, classes, functions, entries and
+//! the whole.
 #![tactic(auto)]
 
 ghost use Rattle.verse_verify_clean.specs.Laws.{VerifiedNotes};

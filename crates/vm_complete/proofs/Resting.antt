@@ -13,7 +13,7 @@ use Rattle.vm_scheduler.specs.declared.tasks.Went.TheVariants as went
 use Rattle.vm_scheduler.specs.Frames.{threaded}
 use Rattle.vm_scheduler.specs.Meets.{Moves, Meets}
 use Rattle.vm_group.specs.Groups.{on_rest, Hand, Settles, ArmEnded}
-use Rattle.vm_suspend.specs.Rests.{Idle, RestsTo}
+use Rattle.vm_suspend.specs.Idle.{Idle, RestsTo}
 use Rattle.vm_complete.specs.Groups.{IdleAt, RestsOn, SettlesOn, ArmEndsOn}
 
 module _ {W : Type 0} (pending : W → List Pending) where

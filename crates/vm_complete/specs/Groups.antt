@@ -16,7 +16,7 @@ use Rattle.vm_scheduler.specs.Frames.{threaded, Suspended}
 use Rattle.vm_scheduler.specs.Standing.{Standing, Bare}
 use Rattle.vm_scheduler.specs.Meets.{Moves, Meets}
 use Rattle.vm_group.specs.Groups.{on_rest}
-use Rattle.vm_suspend.specs.Rests.{Idle}
+use Rattle.vm_suspend.specs.Idle.{Idle}
 
 module _ {W : Type 0} (pending : W → List Pending) where
   abbrev pub IdleAt : Went → View → Tasks W → Type 0

@@ -11,7 +11,7 @@ use verse_base::refusals::Memory;
 use vm_group::groups::{arm_ended, settle};
 use vm_running::runners::Runner;
 use vm_scheduler::tasks::{Begins, Tasks, Went};
-use vm_suspend::rests::rest;
+use vm_suspend::idle::rest;
 
 /// What a call has come to; where no task runs, those above go on.
 fn rest_on<H: Heap, W: Waits>(

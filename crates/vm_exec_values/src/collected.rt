@@ -19,7 +19,7 @@ use verse_base::refusals::Memory;
 use verse_code::codes::Code;
 use verse_value::runs::Ending;
 use verse_value::values::Value;
-use vm_ops::making::{op_array, op_map, op_tuple};
+use vm_ops::aggregates::{op_array, op_map, op_tuple};
 use vm_ops::texts::op_join;
 use vm_running::answering::answer;
 use vm_running::runners::{Did, Runner};

@@ -9,13 +9,13 @@ use verse_value::lookups::key_from;
 use verse_value::sizes::{levels, weight};
 use verse_value::values::{Entries, Value};
 use verse_value_writes::writes::WriteFault;
+use vm_ops::aggregates::{op_append, op_array, op_concat, op_map, op_some, op_tuple};
 use vm_ops::equality::{op_eq, op_ne};
 use vm_ops::faults::OpFault;
 use vm_ops::ints::{
     op_add, op_ceil, op_floor, op_ge, op_gt, op_le, op_lt, op_mod, op_mul, op_neg, op_sub,
 };
 use vm_ops::made::{element, join, key_value};
-use vm_ops::making::{op_append, op_array, op_concat, op_map, op_some, op_tuple};
 use vm_ops::parts::{at, item, length, op_at, op_item, op_length, op_query, query};
 use vm_ops::texts::{op_join, op_text};
 

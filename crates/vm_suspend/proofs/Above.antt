@@ -32,7 +32,7 @@ use Rattle.vm_scheduler.specs.Moving.{Resumes}
 use Rattle.vm_scheduler.proofs.Running.{on_moves}
 use Rattle.vm_scheduler.proofs.Ends.{last_first}
 use Rattle.vm_group.specs.Groups.{on_rest, Hand, NextArm}
-use Rattle.vm_suspend.specs.Rests.{Idle, RestsTo, Above, GoesUp, AboveGroup, GroupUp}
+use Rattle.vm_suspend.specs.Idle.{Idle, RestsTo, Above, GoesUp, AboveGroup, GroupUp}
 
 -- which one it is
 

@@ -37,7 +37,7 @@ use Rattle.vm_scheduler.proofs.Free.{bare_of, frames_bare}
 use Rattle.vm_scheduler.proofs.Running.{own_of, suspended_of}
 use Rattle.vm_scheduler.proofs.Seated.{seat, fine_reheld}
 use Rattle.vm_scheduler.proofs.Untold.{untold_reheld}
-use Rattle.vm_suspend.specs.Rests.{Idle, RestsTo}
+use Rattle.vm_suspend.specs.Idle.{Idle, RestsTo}
 use Rattle.vm_suspend.specs.Asleep.{suspending, IsOpen}
 
 -- what is known of a result in the clock, by what the tasks have

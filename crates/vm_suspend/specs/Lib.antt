@@ -1,3 +1,3 @@
-pub mod Rests
+pub mod Idle
 pub mod Asleep
 pub mod Results

@@ -8,7 +8,7 @@ ghost use Rattle.vm_scheduler.specs.Going.{Goes};
 ghost use Rattle.vm_scheduler.specs.Meets.{Comes};
 ghost use Rattle.vm_suspend.specs.Asleep.{IsOpen, suspending};
 
-use crate::rests::rest;
+use crate::idle::rest;
 use sim_clock::waits::{Wait, WaitKind, Waits};
 use std::mem;
 use tx_heap::heaps::Heap;

@@ -1,6 +1,5 @@
 -- Ends and wakings, told by the definition.
-use Rattle.std.specs.Result.{is_err}
-use Rattle.std.proofs.Common.{◌≡◌, ℕ, false, Result, Ok, Err, OnOk, List, [], ◌∷◌, ◌++◌, Option, Some, None, option_map, refl, sym, ap}
+use Rattle.std.proofs.Common.{◌≡◌, ℕ, List, [], ◌∷◌, ◌++◌, Option, Some, None, option_map, refl, sym, ap}
 use Rattle.std.proofs.Common.{subst, ◌∙◌, arith}
 use Rattle.task_tree.specs.Tasks.{Task, task_at, with_item, without, HasNoChild}
 use Rattle.task_tree.specs.Nested.{IsTree}
@@ -8,7 +7,7 @@ use Rattle.task_tree.proofs.Standing.{inner}
 use Rattle.verse_meaning_state.specs.State.{State, drawn}
 use Rattle.verse_meaning_state.specs.Waits.{Wait, Due}
 use Rattle.verse_code_machine.specs.Tasks as m
-use Rattle.verse_code_machine.specs.Tasks.{Frame, Who, Part, did, Rest, asleep, group, World}
+use Rattle.verse_code_machine.specs.Tasks.{Frame, did, asleep, group, World}
 use Rattle.verse_code_machine.specs.Ends.{resumes, woken_in}
 use Rattle.sim_clock.specs.declared.waits.WaitKind.{WaitKind}
 use Rattle.sim_clock.specs.declared.waits.WaitKind.TheVariants.{At, Never, Task as OnTask, Event}
@@ -36,10 +35,6 @@ abbrev asleep_part : table.Held → Option Wait
 asleep_part table.by_machine = None
 asleep_part (table.by_itself f bl (asleep w)) = Some w
 asleep_part (table.by_itself f bl (group k p gs)) = None
-
-pub not_err : {T E : Type 0} (r : Result T E) (P : Type 0) → is_err r ≡ false → OnOk r P → P
-not_err (Ok x) P e h = h
-not_err (Err x) P e h = absurd (cc)
 
 is_new : (s : State) (k : WaitKind) → IsUntold s k → IsNew s k
 is_new s (At moment) i = tt

@@ -8,7 +8,7 @@ use Rattle.task_tree.specs.Removing.{Visited}
 use Rattle.task_tree.proofs.Standing.{inner}
 use Rattle.verse_meaning_state.specs.Waits.{Wait}
 use Rattle.verse_code_machine.specs.Tasks as m
-use Rattle.verse_code_machine.specs.Tasks.{Frame, Who, Part, Thread, World, since, beneath_arms}
+use Rattle.verse_code_machine.specs.Tasks.{Frame, World, since, beneath_arms}
 use Rattle.verse_code_machine.specs.Cancelling.{cancelled}
 use Rattle.sim_clock.specs.declared.waits.Pending.{Pending}
 use Rattle.vm_tasks_laws.specs.Slots as table

@@ -1,22 +1,21 @@
 //! The changes of a tree of tasks, and what each is in the machine's definition.
 
-ghost use Rattle.std.specs.Prelude.{◌≡◌, IfSome, IfNone, IfOk, OnOk, OnErr, IfErr, Some, None};
+ghost use Rattle.std.specs.Prelude.{◌≡◌, IfSome, IfNone, IfOk, OnErr, Some, None};
 ghost use Rattle.std.specs.Prelude.{option_map};
 ghost use Rattle.task_tree.specs.Tasks.{IsLive, HasNoChild, task_at, parent_at, without};
 ghost use Rattle.task_tree.specs.Nested.{IsTree};
 ghost use Rattle.vm_tasks.specs.declared.slots.Root.TheVariants.{Part as APart, Spawned};
-ghost use Rattle.vm_tasks.specs.declared.slots.Held.TheVariants.{ByMachine, Asleep};
+ghost use Rattle.vm_tasks.specs.declared.slots.Held.TheVariants.{ByMachine};
 ghost use Rattle.vm_tasks.specs.Begun.{Begun, Reheld, Grouped};
 ghost use Rattle.vm_tasks.specs.Gone.{IsYounger, NoYounger, Cleared, KeepsEach, LosesFew};
-ghost use Rattle.vm_tasks.specs.Ending.{IsAlone, Ended, Wakes, FallsAsleep};
-ghost use Rattle.sim_clock.specs.Pending.{IsAboveAll};
+ghost use Rattle.vm_tasks.specs.Ending.{IsAlone, Ended, Wakes};
 ghost use Rattle.vm_tasks.specs.Standing.{Branches, BeginsArm, Spawns, SetsDown, BeginsGroup};
 ghost use Rattle.vm_tasks.specs.Standing.{CancelsScope, CancelsArms};
 
 use crate::deferring::Deferring;
 use crate::gone::Gone;
 use crate::slots::{Held, Root, Slot};
-use sim_clock::waits::{Wait, Waits};
+use sim_clock::waits::Waits;
 use std::mem;
 use task_tree::tasks::Role;
 use task_tree::tree::TaskTree;
@@ -85,38 +84,6 @@ pub fn set_down<F: Drop>(tree: &mut TaskTree<Slot<F>>, id: usize, held: Held<F>)
 {
     tree.is_nested();
     put(tree, id, held);
-}
-
-/// The running task falls asleep with a wait whose number is above those of all waits. Without
-/// memory nothing is changed, and the frames are handed back.
-pub fn fall_asleep<F: Drop, W: Waits>(
-    tree: &mut TaskTree<Slot<F>>,
-    gone: &mut Gone<F, W>,
-    wait: Wait,
-    frames: F,
-) -> Result<(), (Memory, F)>
-    requires live { IsLive wait.task tree.old }
-    requires above { IsAboveAll wait.number (W.pending gone.old.waits) }
-    ensures slept { OnOk result (Reheld tree.old tree.new wait.task
-        (Asleep frames wait.number wait.kind)) }
-    ensures down { OnOk result (SetsDown tree.old tree.new wait.task
-        (Asleep frames wait.number wait.kind)) }
-    ensures timed { OnOk result (FallsAsleep W.pending tree.old tree.new gone.old gone.new wait.task
-        wait.number wait.kind) }
-    ensures same { OnErr result (tree.new ≡ tree.old) }
-    ensures waits { OnErr result (W.pending gone.new.waits ≡ W.pending gone.old.waits) }
-    ensures back { IfErr result (λ e. e.1 ≡ frames) }
-{
-    tree.is_nested();
-    if gone.waits.add(wait).is_err() {
-        return Err((Memory, frames));
-    }
-    set_down(
-        tree,
-        wait.task,
-        Held::Asleep(frames, wait.number, wait.kind),
-    );
-    Ok(())
 }
 
 /// A group of the running task begins when so many steps are left.
