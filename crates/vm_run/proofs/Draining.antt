@@ -53,11 +53,40 @@ lines_gone t e = ap (λ ms. t.lines + length (outside t.kept ms)) e
 outside_printed : (t : Trace) → t.marks ≡ [] → trace.printed (outside t.kept t.marks) ≡ printed (map line_of t.kept)
 outside_printed t e = ap (λ ms. trace.printed (outside t.kept ms)) e ∙ sym (kept_printed t.kept)
 
+-- where nothing is kept there is nothing to drain
+
+kept_none : (ks : List (ℕ × List ℕ)) → length ks ≡ 0 → ks ≡ []
+kept_none [] none = refl
+kept_none (k ∷ ks) none = absurd (omega (arith, none))
+
+pub none_drained : (t : Trace) → t.marks ≡ [] → length t.kept ≡ 0 → t ≡ drained t
+none_drained t bare none = go t.kept t.marks bare none
+  where
+    go : (ks : List (ℕ × List ℕ)) (ms : List (List (ℕ × List ℕ))) → ms ≡ [] → length ks ≡ 0 →
+        record t { kept = ks; marks = ms } ≡ drained (record t { kept = ks; marks = ms })
+    go [] [] e z =
+        let b : t.bytes ≡ t.bytes + 0 = omega arith in
+        let l : t.lines ≡ t.lines + 0 = omega arith in
+        ap (λ b. record t { kept = []; marks = []; bytes = b }) b ∙
+        ap (λ l. record t { kept = []; marks = []; bytes = t.bytes + 0; lines = l }) l
+    go [] (m ∷ ms) e z = absurd (omega (arith, ap length e))
+    go (k ∷ ks) ms e z = absurd (omega (arith, z))
+
+pub none_taken : (taken : Option (List ℕ)) (t : Trace) → t.marks ≡ [] → length t.kept ≡ 0 →
+    taken ≡ with_more taken (trace.printed (outside t.kept t.marks))
+none_taken taken t bare none =
+    same taken ∙ ap (λ bytes. with_more taken bytes) (sym (ap (λ ms. trace.printed (outside t.kept ms)) bare ∙
+    ap trace.printed (kept_none t.kept none)))
+  where
+    same : (taken : Option (List ℕ)) → taken ≡ with_more taken []
+    same None = refl
+    same (Some bytes) = ap Some (sym (append-nil bytes))
+
 module _ {H W : Type 0} (state : H → Kept) (pending : W → List Pending) where
   abbrev pub with_trace : Vm H W → Trace → Vm H W
   with_trace m t = record m { run = record m.run { trace = t } }
 
-  no_marks : (stage : Stage Forest) (past : List Line) (m : Vm H W) → Holds state pending stage past m → m.run.trace.marks ≡ []
+  pub no_marks : (stage : Stage Forest) (past : List Line) (m : Vm H W) → Holds state pending stage past m → m.run.trace.marks ≡ []
   no_marks (going s trees) past m h = h.shows.marks
   no_marks (closed e s trees) past m h = h.end.marks
   no_marks (broken e s) past m h = h.marks

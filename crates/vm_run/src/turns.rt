@@ -2,6 +2,8 @@
 
 ghost use Rattle.std.specs.Prelude.{◌≡◌, ◌≤◌, ℕ, List, [], IfOk, OnOk, OnErr, IsErrOf};
 ghost use Rattle.verse_outside.specs.Causes.{Rose};
+ghost use Rattle.verse_outside.specs.Held.{TookPrefix, with_more};
+ghost use Rattle.trace_buf.specs.Trace.{drained, outside, printed};
 ghost use Rattle.verse_code.specs.Validity.{Valid};
 ghost use Rattle.verse_value.specs.Runs.{Line};
 ghost use Rattle.vm_run.specs.declared.machines.Phase.TheVariants as phase;
@@ -16,6 +18,7 @@ use crate::machines::{Phase, Vm};
 use crate::stages::{begin, go};
 use sim_clock::waits::Waits;
 use std::mem;
+use trace_buf::buffers::TraceBuf;
 use tx_heap::heaps::Heap;
 use verse_base::refusals::Memory;
 use verse_code::codes::Code;
@@ -136,7 +139,7 @@ impl<H: Heap + Drop, W: Waits + Drop> Vm<H, W> {
         ensures still { self.old.phase ≡ phase.Lost → IsErrOf result fault.Memory }
     {
         let ending = self.turn(code)?;
-        self.run.trace.drain(out)?;
+        drain(&mut self.run.trace, out)?;
         Ok(ending)
     }
 
@@ -169,4 +172,24 @@ fn ending_of(phase: Phase) -> Option<Ending>
         Phase::Ended(ending) => Some(ending),
         _ => None,
     }
+}
+
+/// The lines of a trace without open marks go to a sink. Where there are none nothing is done: the
+/// buffer through which lines are written is cleared each time.
+#[tactic(auto, using(crate::proofs::Draining::none_drained, crate::proofs::Draining::none_taken))]
+fn drain<S: Sink>(trace: &mut TraceBuf, out: &mut S) -> Result<(), Failed>
+    requires bare { trace.old.marks ≡ [] }
+    ensures drained { OnOk result (trace.new ≡ drained trace.old) }
+    ensures written { OnOk result (S.taken out.new ≡ with_more (S.taken out.old)
+        (printed (outside trace.old.kept trace.old.marks))) }
+    ensures part { OnErr result (TookPrefix (S.taken out.old)
+        (printed (outside trace.old.kept trace.old.marks)) (S.taken out.new)) }
+    ensures kept { OnErr result (trace.new ≡ trace.old) }
+    ensures later { S.faults out.old ≤ S.faults out.new }
+    ensures failed { OnErr result (Rose (S.faults out.old) (S.faults out.new)) }
+{
+    if trace.kept_lines() == 0 {
+        return Ok(());
+    }
+    trace.drain(out)
 }
